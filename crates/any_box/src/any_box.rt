@@ -171,8 +171,11 @@ impl AnySpacer {
     /// A spacer that has taken no tick, with room for `room` frames to wait. It takes its memory
     /// here, and none later.
     pub fn new(alloc: Global, kind: SpacerKind, room: usize) -> Result<AnySpacer, NoMemory>
+        /// It has taken 0 ticks.
         ensures taken { IfOk result (λ spacer. ⟦<AnySpacer as DefinedSpacer>⟧.taken spacer ≡ 0) }
+        /// It is of the kind that was asked for.
         ensures kind { IfOk result (λ spacer. spacer_kind spacer ≡ kind) }
+        /// It begins with room for so many waiting frames, with no tick taken.
         ensures stands { IfOk result (λ spacer. ⟦<AnySpacer as DefinedSpacer>⟧.stands room spacer
             []) }
     {
@@ -188,9 +191,13 @@ impl AnySpacer {
     /// If a frame is lost in this step, since too many wait, it also returns the tick of the
     /// frame's first byte. Fewer than `MAX_TICKS` ticks were taken before.
     pub fn step(&mut self, t: Tick) -> SpaceStep
+        /// Fewer than 2^62 ticks were taken before.
         requires { ⟦<AnySpacer as DefinedSpacer>⟧.taken self.old < MAX_TICKS }
+        /// One more tick is taken.
         ensures taken { ⟦<AnySpacer as DefinedSpacer>⟧.taken self.new
             ≡ ⟦<AnySpacer as DefinedSpacer>⟧.taken self.old + 1 }
+        /// The tick that leaves, and the frame that is lost, are what the definition of the spaced
+        /// line adds for this tick.
         ensures steps { SpacerStepsOn ⟦<AnySpacer as DefinedSpacer>⟧ self.old
             self.new t result }
     {

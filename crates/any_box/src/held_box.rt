@@ -72,7 +72,11 @@ impl HeldBox {
         a: SlotBytes,
         b: SlotBytes,
     ) -> Result<HeldBox, LoadError>
+        /// The box has begun by this kind, direction and key, from the floor of the slots for its
+        /// link, and has taken no tick.
         ensures begins { IfOk result (HeldBegins ⟦<AnyBox as DefinedBox>⟧ kind dir key.now a b) }
+        /// Otherwise the slots hold no number for its link, and the error says whether they hold
+        /// none at all or only those of other links.
         ensures refused { IfErr result (RefusesLoad (link_for kind dir)
             (Some (slots_given a b)) (Some (slots_given a b)) 0 0) }
     {
@@ -96,7 +100,10 @@ impl HeldBox {
     /// It fails if the box has taken `MAX_TICKS` ticks, and then changes nothing.
     #[tactic(auto, using(crate::proofs::Places::fits_back, crate::proofs::Places::fits_kept, crate::proofs::Places::own_back, crate::proofs::Places::label_kept, crate::proofs::Places::dir_kept, crate::proofs::Places::profile_kept))]
     pub fn step(&mut self, t: Tick) -> Result<HeldStep, Full>
+        /// The box has taken the tick. The tick, the note and the slot to write are what its
+        /// definition adds.
         ensures steps { IfOk result (StepsHeld ⟦<AnyBox as DefinedBox>⟧ self.old self.new t) }
+        /// It fails only if 2^62 ticks were taken, and the box is then as it was.
         ensures full { OnErr result ((ticks_held self.old ≡ MAX_TICKS) × (self.new ≡ self.old)) }
     {
         if self.ticks >= MAX_TICKS {
@@ -120,7 +127,10 @@ impl HeldBox {
     /// taken, the caller goes on by `step`.
     #[tactic(auto, using(crate::proofs::Places::label_kept, crate::proofs::Places::dir_kept, crate::proofs::Places::profile_kept, crate::proofs::Taking::within_whole, crate::proofs::Taking::takes_front, crate::proofs::Taking::taken_counted, crate::proofs::Taking::counted_taken))]
     pub fn take_alike(&mut self, run: TickRun<'_>, sent: &mut RunBytes) -> usize
+        /// No more ticks are taken than there are.
         ensures within { result ≤ length (run_ticks run.entry) }
+        /// The box has taken these ticks, and what leaves is what its definition adds, without a
+        /// note and without a number.
         ensures takes { TakesHeld ⟦<AnyBox as DefinedBox>⟧ self.old self.new
             (take result (run_ticks run.entry)) (answered result sent.new.items) }
     {

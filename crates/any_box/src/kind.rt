@@ -31,7 +31,9 @@ impl Kind {
 
     /// Returns the link of a box of this kind in a direction, as its journal names it.
     pub fn link(self, dir: Dir) -> LinkId
+        /// It is the link by which the journal of such a box names it.
         ensures link { result ≡ link_for self dir }
+        /// Its direction is 0 or 1.
         ensures known { HasDirection result }
     {
         link_of(self.proto, self.profile, dir)

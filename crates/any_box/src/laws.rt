@@ -12,16 +12,17 @@ ghost use Rattle.any_box.specs.declared.owed.Commit.{Commit};
 use crate::any_box::AnyBox;
 use crate::defined::DefinedBox;
 
-/// A caller has the slots of a box on its disk, and writes what a step says. *written*: after that
-/// they are again the slots of the box, and their floor is the last number that it used. *torn*:
-/// whatever a crash leaves in the slot that is written, the floor isn't below the last number
-/// before the step.
+/// A law of a caller that has the slots of a box on its disk, and writes what a step says.
 pub fn writes_keep_the_floor()
+    /// Once the write is done, the slots are again those of the box, and their floor is the last
+    /// number that it used.
     ensures written { (old new : HeldBox) (t : Tick) (step : HeldStep) (commit : Commit)
         → StepsHeld ⟦<AnyBox as DefinedBox>⟧ old new t step
         → step.commit ≡ Some commit
         → (with_slot (slots_held old) commit.slot commit.bytes ≡ slots_held new)
         × (floor_of (link_of_held old) (slots_held new) ≡ Some (floor_held new)) }
+    /// Whatever a crash leaves in the slot that is written, the floor isn't below the last number
+    /// before the step.
     ensures torn { (old new : HeldBox) (t : Tick) (step : HeldStep) (commit : Commit)
         (bytes : List ℕ)
         → StepsHeld ⟦<AnyBox as DefinedBox>⟧ old new t step

@@ -418,9 +418,13 @@ impl Block {
     /// Takes a single byte.
     #[inline]
     pub fn byte(self, b: u8) -> Step
+        /// The block is at a sound place.
         requires sound { is_sound_block_step self ≡ true }
+        /// A single byte comes next.
         requires single { takes_bytes self ≡ true }
+        /// It is what the definition makes of the byte here.
         ensures step { result ≡ block_byte_at self b }
+        /// The step leads to a sound place, or refuses.
         ensures sound { IsSoundBlock result }
     {
         match self {
@@ -465,10 +469,15 @@ impl Block {
 
     /// Takes a field of four bytes.
     pub fn field(self, word: &[u8]) -> Step
+        /// The block is at a sound place.
         requires sound { is_sound_block_step self ≡ true }
+        /// The field has four bytes.
         requires four { length word.now ≡ 4 }
+        /// A field comes next.
         requires field { takes_bytes self ≡ false }
+        /// It is what the definition makes of the field here.
         ensures step { result ≡ block_field_at self word.now }
+        /// The step leads to a sound place, or refuses.
         ensures sound { IsSoundBlock result }
     {
         match self {

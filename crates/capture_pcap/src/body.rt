@@ -73,9 +73,13 @@ impl Body {
 
     /// Takes a field of four bytes of the RTAC header.
     pub fn field(self, word: &[u8]) -> Next
+        /// The field has four bytes.
         requires four { length word.now ≡ 4 }
+        /// A field comes next.
         requires header { takes_data self ≡ false }
+        /// It is what the definition makes of the field here.
         ensures next { result ≡ body_field_at self word.now }
+        /// The step leads to a sound place.
         ensures sound { IsSoundNext result }
     {
         match self {
@@ -89,9 +93,13 @@ impl Body {
     /// Takes a byte of data.
     #[inline]
     pub fn byte(self, b: u8) -> Next
+        /// More bytes of data are to come.
         requires sound { has_more self ≡ true }
+        /// A byte of data comes next.
         requires payload { takes_data self ≡ true }
+        /// It is what the definition makes of the byte here.
         ensures next { result ≡ body_byte_at self b }
+        /// The step leads to a sound place.
         ensures sound { IsSoundNext result }
     {
         let Body::Data(start, left, way, first) = self else {

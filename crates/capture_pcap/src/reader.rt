@@ -38,8 +38,11 @@ impl PcapReader {
 
     /// Returns a reader that has taken nothing yet.
     pub fn new() -> PcapReader
+        /// It has taken no byte and returned no item.
         ensures stands { PcapReaderStandsFor result [] [] }
+        /// Some capture begins so, and no item comes first in each.
         ensures begins { WalkBegins IsCapture [] [] }
+        /// It has taken 0 bytes.
         ensures taken { pcap_bytes_taken result ≡ 0 }
     {
         PcapReader {
@@ -96,26 +99,30 @@ impl PcapReader {
     /// the line or an event. A refusal is for good: each later call returns it too.
     #[inline]
     pub fn feed(&mut self, b: u8) -> Result<Option<Seen>, BadPcap>
+        /// Fewer than 2^62 bytes were taken before.
         requires { pcap_bytes_taken self.old < MAX_BYTES }
-        // The bytes so far represent the items that were returned.
+        /// The bytes so far represent the items that were returned.
         ensures stands { (file : List ℕ) (items : List Seen) → PcapReaderStandsFor self.old file items
             → IfOk result (λ seen. PcapReaderStandsFor self.new (file ++ b ∷ [])
             (items ++ option_to_list seen)) }
-        // The bytes up to the last whole field begin a capture, with these items.
+        /// The bytes up to the last whole field begin a capture, with these items.
         ensures begins { (file : List ℕ) (items : List Seen) → PcapReaderStandsFor self.old file items
             → IfOk result (λ seen. AreFieldsSoFar IsCapture (file ++ b ∷ [])
             (items ++ option_to_list seen)) }
-        // Each capture that begins with the bytes so far has these items first.
+        /// Each capture that begins with the bytes so far has these items first.
         ensures each { (file : List ℕ) (items : List Seen) → PcapReaderStandsFor self.old file items
             → IfOk result (λ seen. (more : List ℕ) (all : List Seen)
             → IsCapture ((file ++ b ∷ []) ++ more) all
             → (others : List Seen) × (all ≡ (items ++ option_to_list seen) ++ others)) }
-        // It refuses only the first field with which no capture begins. The bytes before that field
-        // begin one, with all the items that were returned.
+        /// It refuses only the first field with which no capture begins. The bytes before that
+        /// field begin one, with all the items that were returned.
         ensures refused { (file : List ℕ) (items : List Seen) → PcapReaderStandsFor self.old file items
             → IfErr result (λ bad. RefusesField IsCapture IsCause file items b bad.offset bad.why) }
+        /// A byte that isn't refused is counted.
         ensures taken { OnOk result (pcap_bytes_taken self.new ≡ pcap_bytes_taken self.old + 1) }
+        /// The reader remembers a refusal.
         ensures remembered { IfErr result (λ bad. PcapReaderHasRefused self.new bad) }
+        /// After a refusal each call returns it, and changes nothing.
         ensures for_good { (bad : BadPcap) → PcapReaderHasRefused self.old bad
             → (result ≡ Err bad) × (self.new ≡ self.old) }
     {
@@ -144,11 +151,14 @@ impl PcapReader {
 
     /// Takes the end of the file. It refuses it only if the bytes so far aren't a whole capture.
     pub fn finish(self) -> Result<(), BadPcap>
+        /// If the end is taken, the bytes are a capture with the items that were returned.
         ensures right { (file : List ℕ) (items : List Seen) → PcapReaderStandsFor self file items
             → OnOk result (IsCapture file items) }
+        /// If the end is refused, the bytes are no capture, and the place is their end.
         ensures refused { (file : List ℕ) (items : List Seen) → PcapReaderStandsFor self file items
             → IfErr result (λ bad. ((all : List Seen) → IsCapture file all → ⊥)
             × (bad.offset ≡ length file) × (bad.why ≡ PcapFault.End)) }
+        /// After a refusal it returns that refusal.
         ensures again { (bad : BadPcap) → PcapReaderHasRefused self bad → result ≡ Err bad }
     {
         if let Some(bad) = self.refused {

@@ -136,9 +136,13 @@ impl Stage {
     /// Takes a single byte.
     #[inline]
     pub fn byte(self, b: u8) -> Step
+        /// The stage is a sound place.
         requires sound { is_sound_pcap self ≡ true }
+        /// A single byte comes next.
         requires payload { takes_bytes self ≡ true }
+        /// It is what the definition makes of the byte here.
         ensures step { result ≡ byte_at self b }
+        /// The step leads to a sound place, or refuses.
         ensures sound { IsSoundPcapStep result }
     {
         match self {
@@ -150,10 +154,15 @@ impl Stage {
 
     /// Takes a field of four bytes.
     pub fn field(self, word: &[u8]) -> Step
+        /// The stage is a sound place.
         requires sound { is_sound_pcap self ≡ true }
+        /// The field has four bytes.
         requires four { length word.now ≡ 4 }
+        /// A field comes next.
         requires field { takes_bytes self ≡ false }
+        /// It is what the definition makes of the field here.
         ensures step { result ≡ field_at self word.now }
+        /// The step leads to a sound place, or refuses.
         ensures sound { IsSoundPcapStep result }
     {
         match self {

@@ -36,7 +36,9 @@ impl Resolution {
     /// Returns how many nanoseconds a unit of this resolution is.
     #[inline]
     pub fn nanoseconds(self) -> u32
+        /// It is the number by the definition.
         ensures value { result ≡ nanoseconds self }
+        /// It is at most 1,000.
         ensures small { result ≤ 1000 }
     {
         match self {
@@ -52,6 +54,7 @@ impl Order {
     /// Returns the number in the first four bytes.
     #[inline]
     pub fn number(self, word: &[u8]) -> u32
+        /// There are at least four bytes.
         requires { 4 ≤ length word.now }
         ensures { result ≡ number self word.now }
     {
@@ -64,6 +67,7 @@ impl Order {
     /// Returns the number in the first two bytes.
     #[inline]
     pub fn short_number(self, word: &[u8]) -> u16
+        /// There are at least two bytes.
         requires { 2 ≤ length word.now }
         ensures { result ≡ short_number self word.now }
     {

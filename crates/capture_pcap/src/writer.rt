@@ -20,10 +20,11 @@ pub const FILE_HEADER: [u8; 24] = [
 /// What comes before the data of a packet.
 pub type PacketHeader = ArrayVec<u8, 28>;
 
-/// A law: `FILE_HEADER` is the header of a little-endian file whose times count nanoseconds, and has
-/// these very bytes.
+/// A law of `FILE_HEADER`.
 pub fn written_header()
+    /// It is the header of a little-endian file whose times count nanoseconds.
     ensures header { IsPcapHeader written_clock FILE_HEADER }
+    /// It has these very bytes.
     ensures bytes { FILE_HEADER ≡ file_header }
 {}
 
@@ -71,10 +72,15 @@ fn push_event(out: &mut PacketHeader, way: Way)
 /// Returns what comes before `count` bytes of data that start at this time, in nanoseconds since
 /// 1970.
 pub fn packet_header(way: Way, start: u64, count: u32) -> PacketHeader
+    /// The time is before 2^32 seconds since 1970.
     requires time { start < 2 ^ 32 * 1000000000 }
+    /// The packet is shorter than 2^32 bytes.
     requires size { count + 12 < 2 ^ 32 }
+    /// With any `count` bytes of data behind it, it is a packet of these bytes at this time, that
+    /// go this way.
     ensures packet { (payload : List ℕ) → length payload ≡ count
         → IsPcapPacket written_clock (result.items ++ payload) (seen_bytes start way true payload) }
+    /// It has exactly the bytes of the definition.
     ensures front { result.items ≡ packet_front way start count }
 {
     let seconds = (start / 1_000_000_000) as u32;

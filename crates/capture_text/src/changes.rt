@@ -45,6 +45,7 @@ struct Cursor {
 /// Returns when a bit of a dump starts, in nanoseconds since bit 0: the nearest whole number, a
 /// half up.
 pub fn bit_start(rate: Rate, bit: u64) -> u64
+    /// The bit is below 2^28.
     requires { bit < 2 ^ 28 }
     ensures { result ≡ bit_start rate bit }
 {

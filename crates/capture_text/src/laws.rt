@@ -13,10 +13,12 @@ ghost use Rattle.capture_text.specs.Looks.{IsWithin, level_at, tick_of_look};
 /// At each time within a bit of a tick, a wire has the level of that bit by the changes of the
 /// dump.
 pub fn looks_give_the_levels()
+    /// It holds for way A.
     ensures way_a { (rate : Rate) (a b : List Tick) (tick bit time : ℕ)
         → tick < length (padded_rows a b) → bit < rate.bits → IsWithin rate tick bit time
         → level_at A time true (dump_changes rate a b)
         ≡ get_or (tick_levels rate.bits (get_or (padded_rows a b) tick Silent)) bit true }
+    /// It holds for way B.
     ensures way_b { (rate : Rate) (a b : List Tick) (tick bit time : ℕ)
         → tick < length (padded_rows b a) → bit < rate.bits → IsWithin rate tick bit time
         → level_at B time true (dump_changes rate a b)

@@ -60,6 +60,7 @@ fn byte_levels(bits: u8, byte: u8) -> Levels
 
 /// Returns the levels of a wire in a tick, with `bits` bits for each character.
 pub fn tick_levels(bits: u8, tick: Tick) -> Levels
+    /// A character has at most 11 bits.
     requires { bits ≤ 11 }
     ensures { result.items ≡ tick_levels bits tick }
 {

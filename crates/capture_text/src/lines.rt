@@ -41,7 +41,9 @@ fn longest(a: &[Tick], b: &[Tick]) -> usize
 /// Returns the dump of the two ways of a line, each of which has at most 2^24 ticks. The shorter
 /// one is silent after its end.
 pub fn dump(alloc: Global, rate: Rate, a: &[Tick], b: &[Tick]) -> Result<Vec<u8>, AllocError>
+    /// Way A has at most 2^24 ticks.
     requires a { length a.now ≤ 2 ^ 24 }
+    /// Way B has at most 2^24 ticks.
     requires b { length b.now ≤ 2 ^ 24 }
     ensures { IfOk result (λ text. text.items ≡ dump_text rate (wires_for b.now) a.now b.now) }
 {

@@ -44,8 +44,11 @@ impl TextReader {
 
     /// Returns a reader that has taken nothing of its text.
     pub fn new() -> TextReader
+        /// It has taken no byte and returned none.
         ensures stands { TextReaderStandsFor result [] [] }
+        /// Some text capture begins so, and no byte comes first in each.
         ensures begins { WalkBegins IsTextCapture [] [] }
+        /// It has taken 0 bytes.
         ensures taken { text_bytes_taken result ≡ 0 }
     {
         TextReader {
@@ -84,23 +87,28 @@ impl TextReader {
     /// any. A refusal is for good.
     #[inline]
     pub fn feed(&mut self, b: u8) -> Result<Option<CaptureByte>, BadText>
+        /// Fewer than 2^62 bytes were taken before.
         requires { text_bytes_taken self.old < MAX_BYTES }
-        // The text so far represents the bytes that were returned.
+        /// The text so far represents the bytes that were returned.
         ensures stands { (text : List ℕ) (items : List CaptureByte) → TextReaderStandsFor self.old text items
             → IfOk result (λ byte. TextReaderStandsFor self.new (text ++ b ∷ [])
             (items ++ option_to_list byte)) }
-        // Some text capture begins with the text so far, and each that does has these bytes first.
+        /// Some text capture begins with the text so far, and each that does has these bytes first.
         ensures begins { (text : List ℕ) (items : List CaptureByte) → TextReaderStandsFor self.old text items
             → IfOk result (λ byte. WalkBegins IsTextCapture (text ++ b ∷ [])
             (items ++ option_to_list byte)) }
-        // It refuses the first byte with which no text capture goes on, and no other.
+        /// It refuses the first byte with which no text capture goes on, and no other, and place
+        /// and cause are right.
         ensures refused { (text : List ℕ) (items : List CaptureByte)
             → TextReaderStandsFor self.old text items
             → IfErr result (λ bad. WalkBegins IsTextCapture text items
             × WalkBeginsNone IsTextCapture (text ++ b ∷ []) × IsPlaceOf bad text
             × IsRowCause text (Some b) bad.why) }
+        /// A byte that isn't refused is counted.
         ensures taken { OnOk result (text_bytes_taken self.new ≡ text_bytes_taken self.old + 1) }
+        /// The reader remembers a refusal.
         ensures remembered { IfErr result (λ bad. TextReaderHasRefused self.new bad) }
+        /// After a refusal each call returns it, and changes nothing.
         ensures for_good { (bad : BadText) → TextReaderHasRefused self.old bad
             → (result ≡ Err bad) × (self.new ≡ self.old) }
     {
@@ -122,11 +130,14 @@ impl TextReader {
 
     /// Takes the end of the text.
     pub fn finish(self) -> Result<(), BadText>
+        /// If the end is taken, the text is a capture with the bytes that were returned.
         ensures right { (text : List ℕ) (items : List CaptureByte) → TextReaderStandsFor self text items
             → OnOk result (IsTextCapture text items) }
+        /// If the end is refused, the text is no capture, and place and cause are right.
         ensures refused { (text : List ℕ) (items : List CaptureByte) → TextReaderStandsFor self text items
             → IfErr result (λ bad. ((all : List CaptureByte) → IsTextCapture text all → ⊥)
             × IsPlaceOf bad text × IsRowCause text None bad.why) }
+        /// After a refusal it returns that refusal.
         ensures again { (bad : BadText) → TextReaderHasRefused self bad → result ≡ Err bad }
     {
         if let Some(bad) = self.refused {

@@ -55,14 +55,14 @@ pub trait RowForm: Drop {
     ghost use Rattle.capture_text.specs.declared.row.Row.{Row};
     ghost use Rattle.capture_text.specs.declared.row.Stage.{Stage};
 
-    // What a line means at this stage, or why it is refused.
+    /// What a line means at this stage, or why it is refused.
     ghost row_at: { Stage → List ℕ → Result Row RowFault };
 
-    // The name of a row's channel.
+    /// The name of a row's channel.
     ghost name_of: { List ℕ → List ℕ };
 
-    // Whether the row of an error follows the row of the byte with this error. If not, it takes the
-    // place of that row.
+    /// Whether the row of an error follows the row of the byte with this error. If not, it takes the
+    /// place of that row.
     ghost error_follows: { Bool };
 
     /// Returns the form. Every value of its type means the same.

@@ -56,7 +56,9 @@ pub fn time_line(time: u64) -> ChangeText
 
 /// Returns the text of a change: the line of its time, and the line of its level.
 pub fn change_text(change: Change) -> ChangeText
+    /// It is the text of the change by the definition.
     ensures text { result.items ≡ change_text change }
+    /// It has at most 25 bytes.
     ensures long { length result.items ≤ 25 }
 {
     let mut text = time_line(change.time);

@@ -58,8 +58,11 @@ fn push_number(front: &mut LineFront, n: u64)
 /// and a space. `start` is that time in nanoseconds. The bytes of the record in hex digits and an
 /// LF must follow.
 pub fn line_front(start: u64) -> LineFront
+    /// With the hex digits of some bytes behind it, it is the line of a record of these bytes at
+    /// this time.
     ensures line { (bytes : List ℕ) → 0 < length bytes → IsBytes bytes
         → IsRowRecord (result.items ++ encode_lower bytes) start (recorded start bytes) }
+    /// It has exactly the bytes of the definition.
     ensures front { result.items ≡ time_front start }
 {
     let mut front = LineFront::new();

@@ -77,11 +77,17 @@ impl<R: LineRules, M: Mac, const B: usize, const D: usize> Checker<R, M, B, D> {
     /// Makes a receiver that has taken no tick, for a key of any length and a direction. A word
     /// must have at least two bytes, so that each header is judged before its first byte leaves.
     pub fn new(key: &[u8], dir: Dir) -> Checker<R, M, B, D>
+        /// A word has from 1 to 4 bytes.
         requires word { IsWordLen B }
+        /// A word has at least two bytes.
         requires wide { 2 ≤ B }
+        /// The delay is four ticks more than word and tag have bytes.
         requires delay { D ≡ 4 + B + M.TAG }
+        /// It has taken 0 ticks.
         ensures taken { checker_ticks result ≡ 0 }
+        /// It has the direction that is named.
         ensures direction { checker_direction result ≡ direction_number dir }
+        /// It begins with this key and direction, at whatever floor its journal has.
         ensures stands { (floor : ℕ) → CheckerStandsAt R.LineRules M.Mac result floor
             (setup_of key.now dir floor) [] }
     {
@@ -111,25 +117,35 @@ impl<R: LineRules, M: Mac, const B: usize, const D: usize> Checker<R, M, B, D> {
         journal: &mut Journal,
         disk: &mut S,
     ) -> Result<BoxStep<CheckNote>, JournalFault>
+        /// Fewer than 2^62 ticks were taken before.
         requires room { checker_ticks self.old < MAX_TICKS }
+        /// The journal serves the receiver's own link.
         requires of_link { journal_link journal.old
             ≡ link_by R.LineRules M.Mac B (checker_direction self.old) }
+        /// The disk is as the journal knows it.
         requires fits { Fits journal.old (S.told disk.old) }
 
+        /// A step that succeeds counts its tick.
         ensures taken { OnOk result (checker_ticks self.new ≡ checker_ticks self.old + 1) }
+        /// What is returned is the tick that the definition's line goes on with, and the note that
+        /// falls into this step, if one does; the journal's floor is the last number that passed.
         ensures step { IfOk result (λ step. (setup : Setup) (line : List Tick)
             → CheckerStandsFor R.LineRules M.Mac self.old journal.old setup line
             → CheckerHasTaken R.LineRules M.Mac self.new (journal_floor journal.new) setup line t step) }
 
-        // It fails only in a step in which a burst passes by the definitions, and its number isn't
-        // committed.
+        /// It fails only in a step in which a burst passes by the definitions, and its number isn't
+        /// committed.
         ensures err_passes { OnErr result ((number : ℕ)
             × HasFailed journal.old journal.new (S.told disk.old) (S.told disk.new) number
             × ((setup : Setup) (line : List Tick)
             → CheckerStandsFor R.LineRules M.Mac self.old journal.old setup line
             → PassesWith (profile_of R.LineRules M.Mac B LIMIT setup) R.rules setup.floor line t
             number)) }
+        /// A number is committed exactly with a note that a frame passed. A fault comes only if the
+        /// disk's count rose. If the journal was crash-safe, it still is, and a crash at any moment
+        /// of the step leaves no floor below the one before.
         ensures journal { CheckerKeepsJournal S.SlotDisk journal.old journal.new disk.old disk.new result }
+        /// The direction stays.
         ensures direction { checker_direction self.new ≡ checker_direction self.old }
     {
         let cut = self.cut.step(t);
@@ -148,13 +164,19 @@ impl<R: LineRules, M: Mac, const B: usize, const D: usize> Checker<R, M, B, D> {
     /// returns 0, the caller must go on with `step`.
     #[inline(always)]
     pub fn pass_bytes(&mut self, bytes: &[u8], sent: &mut RunBytes) -> usize
+        /// The receiver has then taken at most 2^62 ticks.
         requires { checker_ticks self.old + length bytes.now ≤ MAX_TICKS }
+        /// No more bytes are taken than there are.
         ensures within { result ≤ length bytes.now }
+        /// The ticks that are taken are counted.
         ensures taken { checker_ticks self.new ≡ checker_ticks self.old + result }
+        /// What leaves is what the definition's line goes on with, no note falls into these ticks,
+        /// and no number is used.
         ensures run { (last : ℕ) (setup : Setup) (line : List Tick)
             → CheckerStandsAt R.LineRules M.Mac self.old last setup line
             → CheckerHasTakenRun R.LineRules M.Mac self.new last setup line
             (map Byte (take result bytes.now)) (answered result sent.new.items) }
+        /// The direction stays.
         ensures direction { checker_direction self.new ≡ checker_direction self.old }
     {
         sent.clear();
@@ -176,13 +198,19 @@ impl<R: LineRules, M: Mac, const B: usize, const D: usize> Checker<R, M, B, D> {
     /// returns 0, the caller must go on with `step`.
     #[inline(always)]
     pub fn pass_silence(&mut self, ticks: u32, sent: &mut RunBytes) -> u32
+        /// The receiver has then taken at most 2^62 ticks.
         requires { checker_ticks self.old + ticks ≤ MAX_TICKS }
+        /// At most `ticks` ticks are taken.
         ensures within { result ≤ ticks }
+        /// The ticks that are taken are counted.
         ensures taken { checker_ticks self.new ≡ checker_ticks self.old + result }
+        /// What leaves is what the definition's line goes on with, no note falls into these ticks,
+        /// and no number is used.
         ensures run { (last : ℕ) (setup : Setup) (line : List Tick)
             → CheckerStandsAt R.LineRules M.Mac self.old last setup line
             → CheckerHasTakenRun R.LineRules M.Mac self.new last setup line
             (silent result) (answered result sent.new.items) }
+        /// The direction stays.
         ensures direction { checker_direction self.new ≡ checker_direction self.old }
     {
         sent.clear();

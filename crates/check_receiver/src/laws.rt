@@ -15,6 +15,8 @@ use yasir_io::SlotDisk;
 /// it leaves no floor below the one before it. The next step goes on from the last number returned.
 /// The calls that take runs have no disk.
 pub fn steps_are_of_an_uptime<D: SlotDisk>()
+    /// If the journal was crash-safe, the call is a step of an uptime, with the number of the note
+    /// that it returns, or with none.
     ensures is_step { (old new : Journal) (before after : D)
         (result : Result (BoxStep CheckNote) JournalFault)
         → CheckerKeepsJournal D.SlotDisk old new before after result
@@ -23,6 +25,8 @@ pub fn steps_are_of_an_uptime<D: SlotDisk>()
           numbers = numbers_answered (λ step. numbers_passed_in step.note) result;
           after = after;
         }) }
+    /// The last number returned, or the floor before if there is none, is the journal's floor after
+    /// the call.
     ensures goes_on { (old new : Journal) (before after : D)
         (result : Result (BoxStep CheckNote) JournalFault)
         → CheckerKeepsJournal D.SlotDisk old new before after result

@@ -131,7 +131,10 @@ pub fn fault_line(status: &Status) -> Line
 /// Writes the fault line of a run to the log, if it isn't empty. A failure of this write changes
 /// nothing.
 pub fn write_fault_line<L: Sink>(log: &mut L, line: &[u8])
+    /// The log has got the line, or a front of it if this write failed, and its count of faults
+    /// never falls. If there is no line, the log is as it was.
     ensures ends { EndsLog L.Sink log.old log.new line.now }
+    /// No flush of the log is counted.
     ensures flushes { L.flushes log.new ≡ L.flushes log.old }
 {
     if line.is_empty() {
@@ -142,7 +145,10 @@ pub fn write_fault_line<L: Sink>(log: &mut L, line: &[u8])
 
 /// Writes the fault line of a status to the log. If this write fails, the status stays the same.
 pub fn write_fault<L: Sink>(log: &mut L, status: &Status)
+    /// The log has got the fault line of the status, if it has one, or a front of it if this write
+    /// failed.
     ensures ends { EndsLog L.Sink log.old log.new (fault_line status.now) }
+    /// No flush of the log is counted.
     ensures flushes { L.flushes log.new ≡ L.flushes log.old }
 {
     write_fault_line(log, fault_line(status).as_slice());

@@ -21,11 +21,17 @@ pub fn write_frame_line<const CAP: usize>(
     start: u64,
     bytes: &[u8],
 )
+    /// There is room for 678 bytes.
     requires room { length text.old.items + 678 ≤ CAP }
+    /// There are at most 8 bytes of words.
     requires words { length words.now ≤ 8 }
+    /// The frame has at most 292 bytes.
     requires frame { length bytes.now ≤ 292 }
+    /// The words, the frame's tick and its bytes in hex digits are appended, with an LF, and
+    /// nothing else changes.
     ensures line { text.new.items ≡ text.old.items
         ++ frame_line_of words.now (record { start = start; frame = bytes.now }) }
+    /// At most 614 bytes are appended.
     ensures short { length text.new.items ≤ length text.old.items + 614 }
 {
     text.append(words);
@@ -44,16 +50,21 @@ pub fn push_read_line<O: Sink>(
     start: u64,
     bytes: &[u8],
 ) -> Result<(), Failed>
+    /// The frame has at most 292 bytes.
     requires { length bytes.now ≤ 292 }
+    /// The line is added to the text, of which the sink has got all but what waits.
     ensures ok { OnOk result ((held : Option (List ℕ)) (before : List ℕ)
         → Buffered held (O.held out.old) (waiting_bytes text.old) before
         → Buffered held (O.held out.new) (waiting_bytes text.new)
         (before ++ frame_line (record { start = start; frame = bytes.now }))) }
+    /// After a failed write the sink has got a front of the text with this line.
     ensures err { OnErr result ((held : Option (List ℕ)) (before : List ℕ)
         → Buffered held (O.held out.old) (waiting_bytes text.old) before
         → GotPrefix held (O.held out.new)
         (before ++ frame_line (record { start = start; frame = bytes.now }))) }
+    /// A write fails only if the sink's count of faults rose, which otherwise is as it was.
     ensures cause { HasCause (O.faults out.old) (O.faults out.new) result }
+    /// No flush is counted.
     ensures flushes { O.flushes out.new ≡ O.flushes out.old }
 {
     match text.make_room(out, LINE_ROOM) {

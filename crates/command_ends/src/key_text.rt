@@ -151,14 +151,20 @@ fn key_of(text: &[u8]) -> Result<Key, u32>
 /// is taken. A key text is an even count of hex digits of either case, 32 to 128, followed by
 /// nothing, LF, or CR LF, as the profile says.
 pub fn read_key<K: Source>(source: &mut K) -> Result<Key, KeyError>
+    /// The key is that of the text that was met: all that the source had left, or its first 131
+    /// bytes.
     ensures key { IfOk result (λ key. (text : List ℕ)
         × IsKeyMet (K.left source.old) (K.left source.new) text × IsKeyText text key.items) }
+    /// If the text is refused, it is no key text, and the place is the length of its longest
+    /// beginning that begins a key text.
     ensures bad { IfErr result (λ error. (place : ℕ) → error ≡ Bad place → (text : List ℕ)
         × IsKeyMet (K.left source.old) (K.left source.new) text × IsNoKey text place) }
-    // A read that fails is the last one, and comes before the whole text is met.
+    /// A read that fails is the last one, and fewer than 131 bytes were taken before.
     ensures fault { IfErr result (λ error. error ≡ Fault
         → IsCutShort (K.left source.old) (K.left source.new)) }
+    /// The source's count of faults rose if a read failed, and is as it was otherwise.
     ensures cause { KeyCause (K.faults source.old) (K.faults source.new) result }
+    /// The source's count of faults never falls.
     ensures never_falls { K.faults source.old ≤ K.faults source.new }
 {
     let text = match read_text(source) {

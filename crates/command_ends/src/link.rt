@@ -96,7 +96,9 @@ macro_rules! link_by {
 
 /// Returns the link of a protocol, a profile and a direction, as its journals name it.
 pub fn link_of(proto: Proto, profile: Profile, dir: Dir) -> LinkId
+    /// It has the label of the protocol, the number of the direction and the delay of the profile.
     ensures link { result ≡ link_of proto profile dir }
+    /// Its direction is 0 or 1.
     ensures right { HasDirection result }
 {
     let dir = match dir {
@@ -142,7 +144,9 @@ pub struct Usage;
 
 /// Returns the protocol that a word names.
 pub fn read_proto(word: &str) -> Result<Proto, Usage>
+    /// The word names the protocol that is returned.
     ensures ok { IfOk result (λ proto. word.now ≡ proto_word proto) }
+    /// If `Usage` is returned, the word names no protocol.
     ensures usage { OnErr result ((proto : Proto) → word.now ≡ proto_word proto → ⊥) }
 {
     match word {
@@ -154,7 +158,9 @@ pub fn read_proto(word: &str) -> Result<Proto, Usage>
 
 /// Returns the protocol and the profile that a word names.
 pub fn read_link(word: &str) -> Result<(Proto, Profile), Usage>
+    /// The word names the protocol and the profile that are returned.
     ensures ok { IfOk result (λ link. word.now ≡ link_word link.0 link.1) }
+    /// If `Usage` is returned, the word names no protocol with a profile.
     ensures usage { OnErr result ((proto : Proto) (profile : Profile)
         → word.now ≡ link_word proto profile → ⊥) }
 {
@@ -170,7 +176,9 @@ pub fn read_link(word: &str) -> Result<(Proto, Profile), Usage>
 
 /// Returns the direction that a word names.
 pub fn read_dir(word: &str) -> Result<Dir, Usage>
+    /// The word names the direction that is returned.
     ensures ok { IfOk result (λ dir. word.now ≡ dir_word dir) }
+    /// If `Usage` is returned, the word names no direction.
     ensures usage { OnErr result ((dir : Dir) → word.now ≡ dir_word dir → ⊥) }
 {
     match word {
@@ -182,7 +190,9 @@ pub fn read_dir(word: &str) -> Result<Dir, Usage>
 
 /// Returns the word that names a protocol and a profile.
 pub fn link_word(proto: Proto, profile: Profile) -> &'static [u8]
+    /// It is the word that names them.
     ensures word { result.now ≡ link_word proto profile }
+    /// It has at most 10 bytes.
     ensures short { length result.now ≤ 10 }
 {
     match (proto, profile) {

@@ -97,8 +97,11 @@ fn push_many<const CAP: usize>(line: &mut ArrayVec<u8, CAP>, n: u64)
 
 /// Appends the decimal digits of a number.
 pub fn push_decimal<const CAP: usize>(line: &mut ArrayVec<u8, CAP>, n: u64)
+    /// There is room for 20 bytes.
     requires { length line.old.items + 20 ≤ CAP }
+    /// The digits are appended, and nothing else changes.
     ensures digits { line.new.items ≡ line.old.items ++ decimal n }
+    /// At most 20 bytes are appended.
     ensures short { length line.new.items ≤ length line.old.items + 20 }
 {
     if n < 10_000 {

@@ -11,8 +11,11 @@ const TOGETHER: usize = 32;
 /// Appends the decimal digits of a number. There must be room for 20 bytes.
 #[inline]
 pub fn append_decimal<const CAP: usize>(text: &mut TextRoom<CAP>, n: u64)
+    /// There is room for 20 bytes.
     requires { length text.old.items + 20 ≤ CAP }
+    /// The digits are appended, and nothing else changes.
     ensures digits { text.new.items ≡ text.old.items ++ decimal n }
+    /// At most 20 bytes are appended.
     ensures short { length text.new.items ≤ length text.old.items + 20 }
 {
     let mut digits = itoa::Buffer::new();
@@ -34,8 +37,11 @@ fn append_last<const CAP: usize>(text: &mut TextRoom<CAP>, rest: &[u8])
 /// Appends bytes as lower-case hex digits. There must be room for them, and for 64 bytes more: the
 /// last bytes, fewer than 32, are copied together with what comes after them.
 pub fn append_digits<const CAP: usize>(text: &mut TextRoom<CAP>, bytes: &[u8])
+    /// There is room for the digits and for 64 bytes more.
     requires { length text.old.items + 2 * length bytes.now + 64 ≤ CAP }
+    /// The digits are appended, and nothing else changes.
     ensures digits { text.new.items ≡ text.old.items ++ encode_lower bytes.now }
+    /// Two bytes are appended for each byte.
     ensures long { length text.new.items ≡ length text.old.items + 2 * length bytes.now }
 {
     let mut rest = bytes;

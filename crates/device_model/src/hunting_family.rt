@@ -24,9 +24,13 @@ impl<R: Hunted> HuntingFamily<R> {
     /// Makes a device that has heard nothing. `cut` is 0 for a device that ignores silence, or at
     /// least 2 silent ticks.
     pub fn new(cut: u8) -> HuntingFamily<R>
+        /// The cut is 0 or at least 2.
         requires { (cut ≡ 0) ⊎ (2 ≤ cut) }
+        /// It has taken 0 ticks.
         ensures taken { family_ticks result ≡ 0 }
+        /// It has heard no tick.
         ensures stands { FamilyStandsFor R.LineRules R.FIRST R.SECOND cut result [] }
+        /// Of no tick, nothing is read.
         ensures nothing { hunt_family R.FIRST R.SECOND R.rules cut [] ≡ [] }
     {
         HuntingFamily {
@@ -76,7 +80,9 @@ impl<R: Hunted> HuntingFamily<R> {
     /// Returns the bytes of the frame that was read in the last tick taken.
     #[inline]
     pub fn frame_bytes(&self) -> &[u8]
+        /// They are the bytes that the device lends.
         ensures bytes { result.now ≡ family_lent self.now }
+        /// There are at most 292.
         ensures few { length result.now ≤ 292 }
     {
         self.device.frame_bytes()
@@ -87,11 +93,16 @@ impl<R: Hunted> HuntingFamily<R> {
     /// may have been taken before.
     #[inline]
     pub fn step(&mut self, t: Tick) -> Option<u64>
+        /// Fewer than 2^62 ticks were taken before.
         requires { family_ticks self.old < MAX_TICKS }
+        /// One more tick is taken.
         ensures taken { family_ticks self.new ≡ family_ticks self.old + 1 }
+        /// The device has heard this tick after its line.
         ensures stands { (cut : ℕ) (line : List Tick)
             → FamilyStandsFor R.LineRules R.FIRST R.SECOND cut self.old line
             → FamilyStandsFor R.LineRules R.FIRST R.SECOND cut self.new (line ++ t ∷ []) }
+        /// The frame that is returned, if one is, is exactly what is read of the line with this
+        /// tick and not of the line without it.
         ensures answer { (cut : ℕ) (line : List Tick)
             → FamilyStandsFor R.LineRules R.FIRST R.SECOND cut self.old line
             → hunt_family R.FIRST R.SECOND R.rules cut (line ++ t ∷ [])

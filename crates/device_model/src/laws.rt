@@ -20,11 +20,15 @@ use crate::hunted::Hunted;
 /// that the device reads are those that are forwarded, from the bursts that four silent ticks
 /// follow. This is a law of the definitions, for each line.
 pub fn forwarded_frames_are_read()
+    /// A burst is forwarded as a frame exactly if the device takes its ticks for a frame.
     ensures same { (line : List Tick) (d : Burst) → Contains (bursts line) d
         → is_forwarded rtu_rules d ≡ is_frame_body T1_5_TICKS d.body }
+    /// If the device takes a burst for a frame, all its bytes are live.
     ensures whole { (line : List Tick) (d : Burst) → Contains (bursts line) d
         → is_frame_body T1_5_TICKS d.body ≡ true
         → live_bytes rtu_rules d ≡ bytes_in d.body }
+    /// What the device reads of a line are the frames that are forwarded, from the bursts that four
+    /// silent ticks follow.
     ensures read { (line : List Tick) → rtu_reads line ≡ rtu_forwarded line }
 {}
 

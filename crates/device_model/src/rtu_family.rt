@@ -38,12 +38,19 @@ impl RtuFamily {
     /// Makes a device that has heard nothing. `cut` is 2 to 18 silent ticks, and `gap` is at least
     /// 1 and less than `cut`.
     pub fn new(cut: u8, gap: u8) -> RtuFamily
+        /// The cut is at least 2.
         requires shortest { 2 ≤ cut }
+        /// The cut is at most 18.
         requires longest { cut ≤ 18 }
+        /// The gap is at least 1.
         requires some { 1 ≤ gap }
+        /// The gap is less than the cut.
         requires within { gap < cut }
+        /// It has taken 0 ticks.
         ensures taken { ticks_heard result ≡ 0 }
+        /// It has heard no tick.
         ensures stands { RtuFamilyStandsFor cut gap result [] }
+        /// Of no tick, nothing is read.
         ensures nothing { rtu_family_reads cut gap [] ≡ [] }
     {
         RtuFamily {
@@ -258,11 +265,15 @@ impl RtuFamily {
     /// before and these may be at most `MAX_TICKS` together.
     #[inline(always)]
     pub fn hear(&mut self, bytes: &[u8])
+        /// The device has then taken at most 2^62 ticks.
         requires { ticks_heard self.old + length bytes.now ≤ MAX_TICKS }
+        /// A tick is counted for each byte.
         ensures taken { ticks_heard self.new ≡ ticks_heard self.old + length bytes.now }
+        /// The device has heard these ticks after its line.
         ensures stands { (cut gap : ℕ) (line : List Tick)
             → RtuFamilyStandsFor cut gap self.old line
             → RtuFamilyStandsFor cut gap self.new (line ++ map Byte bytes.now) }
+        /// Nothing more is read up to any of these ticks.
         ensures answer { (cut gap n : ℕ) (line : List Tick)
             → RtuFamilyStandsFor cut gap self.old line
             → rtu_family_reads cut gap (line ++ map Byte (take n bytes.now))
@@ -278,18 +289,26 @@ impl RtuFamily {
     /// Takes this many silent ticks, up to the first one in which a frame is read, which is lent
     /// then. The ticks taken before and these may be at most `MAX_TICKS` together.
     pub fn wait(&mut self, ticks: usize) -> Met
+        /// The device has then taken at most 2^62 ticks.
         requires { ticks_heard self.old + ticks ≤ MAX_TICKS }
+        /// If there are ticks, at least one is taken.
         ensures some { 0 < ticks → 0 < result.taken }
+        /// At most `ticks` ticks are taken.
         ensures within { result.taken ≤ ticks }
+        /// If no frame is read, all ticks are taken.
         ensures whole { result.start ≡ None → result.taken ≡ ticks }
+        /// The ticks that are taken are counted.
         ensures taken { ticks_heard self.new ≡ ticks_heard self.old + result.taken }
+        /// The device has heard these ticks after its line.
         ensures stands { (cut gap : ℕ) (line : List Tick)
             → RtuFamilyStandsFor cut gap self.old line
             → RtuFamilyStandsFor cut gap self.new (line ++ silent result.taken) }
+        /// The frame that is returned, if one is, is exactly what these ticks add to what is read.
         ensures answer { (cut gap : ℕ) (line : List Tick)
             → RtuFamilyStandsFor cut gap self.old line
             → rtu_family_reads cut gap (line ++ silent result.taken)
             ≡ rtu_family_reads cut gap line ++ frames_lent result.start (bytes_lent self.new) }
+        /// Before the last of these ticks nothing more is read.
         ensures before { (cut gap n : ℕ) → n < result.taken → (line : List Tick)
             → RtuFamilyStandsFor cut gap self.old line
             → rtu_family_reads cut gap (line ++ silent n) ≡ rtu_family_reads cut gap line }
@@ -327,7 +346,9 @@ impl RtuFamily {
     /// the running burst, or else of the last one.
     #[inline]
     pub fn frame_bytes(&self) -> &[u8]
+        /// They are the bytes that the device lends.
         ensures bytes { result.now ≡ bytes_lent self.now }
+        /// There are at most 292.
         ensures few { length result.now ≤ 292 }
     {
         self.bytes.as_slice()
@@ -338,11 +359,16 @@ impl RtuFamily {
     /// may have been taken before.
     #[inline]
     pub fn step(&mut self, t: Tick) -> Option<u64>
+        /// Fewer than 2^62 ticks were taken before.
         requires { ticks_heard self.old < MAX_TICKS }
+        /// One more tick is taken.
         ensures taken { ticks_heard self.new ≡ ticks_heard self.old + 1 }
+        /// The device has heard this tick after its line.
         ensures stands { (cut gap : ℕ) (line : List Tick)
             → RtuFamilyStandsFor cut gap self.old line
             → RtuFamilyStandsFor cut gap self.new (line ++ t ∷ []) }
+        /// The frame that is returned, if one is, is exactly what is read of the line with this
+        /// tick and not of the line without it.
         ensures answer { (cut gap : ℕ) (line : List Tick)
             → RtuFamilyStandsFor cut gap self.old line
             → rtu_family_reads cut gap (line ++ t ∷ [])

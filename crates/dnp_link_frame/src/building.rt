@@ -56,8 +56,11 @@ fn push_with_crc(bytes: &mut DnpBytes, part: &[u8])
 /// bytes, and a CRC after the header and after each block. Returns `TooMuchData` if there are more
 /// than 250 bytes of user data.
 pub fn build(header: &Header, user: &[u8]) -> Result<DnpBytes, TooMuchData>
+    /// The bytes are the frame of this header and this user data.
     ensures built { IfOk result (λ built. built.items ≡ frame_of header.now user.now) }
+    /// There is an error exactly if there are more than 250 bytes of user data.
     ensures cause { IsErr result ↔ (250 < length user.now) }
+    /// The error tells how many there are.
     ensures tells { IfErr result (λ error. error.len ≡ length user.now) }
 {
     if user.len() > MOST_USER_DATA {

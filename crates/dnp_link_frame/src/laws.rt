@@ -11,9 +11,12 @@ ghost use Rattle.dnp_link_frame.specs.declared.header.Header.{Header};
 /// What `dnp_rules` calls a frame, a good header and a right ending is what the DNP3 link layer
 /// calls so.
 pub fn frames_of_the_standard()
+    /// It holds for frames.
     ensures frames { (x : List ℕ) → AreBytes x → IsTrue (dnp_rules.is_frame x) ↔ IsDnpFrame x }
+    /// It holds for good headers.
     ensures headers { (x : List ℕ) → AreBytes x
         → IsTrue (dnp_rules.is_good_header x) ↔ IsGoodHeader x }
+    /// It holds for right endings.
     ensures right_endings { (x : List ℕ)
         → IsTrue (dnp_rules.has_right_ending x) ↔ HasRightDnpEnding x }
 {}
@@ -22,8 +25,10 @@ pub fn frames_of_the_standard()
 /// `user_data` of a frame that `build` made returns what it was made from, and `build` of what
 /// `user_data` returned for a frame makes that frame.
 pub fn one_header_and_user_data()
+    /// No frame is made of two different headers.
     ensures header { (header other : Header) (user more frame : List ℕ)
         → IsFrameOf header user frame → IsFrameOf other more frame → header ≡ other }
+    /// No frame is made of two different lists of user data.
     ensures user { (header other : Header) (user more frame : List ℕ)
         → IsFrameOf header user frame → IsFrameOf other more frame → user ≡ more }
 {}

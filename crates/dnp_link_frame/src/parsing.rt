@@ -166,8 +166,11 @@ fn is_whole(bytes: &[u8], right: usize) -> bool
 /// Returns the header and the user data that a frame was built from, or `NotAFrame` if these bytes
 /// aren't a frame.
 pub fn user_data(frame: &[u8]) -> Result<(Header, UserBytes), NotAFrame>
+    /// The bytes are a frame of the header and the user data that are returned.
     ensures read { IfOk result (λ read. IsFrameOf read.0 read.1.items frame.now) }
+    /// They are returned exactly if the bytes are a frame.
     ensures cause { IsOk result ↔ IsDnpFrame frame.now }
+    /// The error has the length of the longest beginning of the bytes that begins a frame.
     ensures place { IfErr result (λ error. IsLongestBeginning frame.now error.place) }
 {
     let right = right_in_frame(frame);

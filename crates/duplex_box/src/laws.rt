@@ -15,6 +15,8 @@ use yasir_io::SlotDisk;
 /// from the link. In each direction they return the other line and the notes that the definition of
 /// its box makes of the ticks of this direction only.
 pub fn directions_are_apart<S: LinkBox, C: LinkBox, X: SlotDisk, Y: SlotDisk>()
+    /// In the outgoing direction the ticks that leave on the link, and the notes, are what the
+    /// definition of its box makes of the device's ticks.
     ensures outgoing { (old new : BothWays S C X Y) (turns : List (Turn S.Note C.Note))
         → Turns S.LinkBox C.LinkBox X.SlotDisk Y.SlotDisk old turns new
         → (setup : Setup) (line : List Tick)
@@ -22,6 +24,8 @@ pub fn directions_are_apart<S: LinkBox, C: LinkBox, X: SlotDisk, Y: SlotDisk>()
         → MakesLine S.LinkBox X.SlotDisk old.outgoing new.outgoing setup line
         (ticks_from_device turns) (ticks_to_link turns)
         (notes_sealed turns) }
+    /// In the incoming direction the ticks that leave for the device, and the notes, are what the
+    /// definition of its box makes of the link's ticks.
     ensures incoming { (old new : BothWays S C X Y) (turns : List (Turn S.Note C.Note))
         → Turns S.LinkBox C.LinkBox X.SlotDisk Y.SlotDisk old turns new
         → (setup : Setup) (line : List Tick)

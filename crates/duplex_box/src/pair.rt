@@ -51,17 +51,26 @@ impl<S: LinkBox, C: LinkBox> BoxPair<S, C> {
     /// Returns two boxes that have taken no tick, for a key of any length: one for the line's
     /// direction `outgoing`, and one for its other direction.
     pub fn new(key: &[u8], outgoing: Dir) -> BoxPair<S, C>
+        /// The widths of the transmitter are ones that it can be made with.
         requires outgoing_fits { S.widths_fit }
+        /// The widths of the receiver are ones that it can be made with.
         requires incoming_fits { C.widths_fit }
 
+        /// Its outgoing direction is this one.
         ensures direction { outgoing_direction result ≡ outgoing }
+        /// The outgoing box has taken 0 ticks.
         ensures none_sent { S.taken (outgoing_box result) ≡ 0 }
+        /// The incoming box has taken 0 ticks.
         ensures none_got { C.taken (incoming_box result) ≡ 0 }
+        /// The outgoing box's link is that of its direction.
         ensures outgoing_link { S.link_of (outgoing_box result) ≡ S.link_in outgoing }
+        /// The incoming box's link is that of the other direction.
         ensures incoming_link { C.link_of (incoming_box result)
             ≡ C.link_in (opposite_of outgoing) }
+        /// The outgoing box begins with this key, at whatever floor its journal has.
         ensures sends { (floor : ℕ) → S.stands (outgoing_box result) floor
             (setup_of key.now outgoing floor) [] }
+        /// The incoming box begins with this key, at whatever floor its journal has.
         ensures gets { (floor : ℕ) → C.stands (incoming_box result) floor
             (setup_of key.now (opposite_of outgoing) floor) [] }
     {
@@ -106,13 +115,20 @@ impl<S: LinkBox, C: LinkBox> BoxPair<S, C> {
         got: &mut Journal,
         got_disk: &mut Y,
     ) -> Result<PairStep<S::Note, C::Note>, DuplexFault>
+        /// The journals serve the two directions of one line.
         requires journals { AreOfLine (outgoing_direction self.old) sent.old got.old }
+        /// The outgoing box may take a tick, with this journal over its disk.
         requires outgoing { MayStep (S.link_of (outgoing_box self.old))
             (S.taken (outgoing_box self.old)) sent.old (X.told sent_disk.old) }
+        /// The incoming box may take a tick, with this journal over its disk.
         requires incoming { MayStep (C.link_of (incoming_box self.old))
             (C.taken (incoming_box self.old)) got.old (Y.told got_disk.old) }
 
+        /// Its outgoing direction stays.
         ensures direction { outgoing_direction self.new ≡ outgoing_direction self.old }
+        /// Each box takes the tick of its own line and does what its step does. If the outgoing one
+        /// fails, nothing of the incoming direction has changed. If the incoming one fails, the
+        /// outgoing one has taken its tick.
         ensures steps { StepsBoth S.LinkBox C.LinkBox X.SlotDisk Y.SlotDisk from_device from_link
             (ways_of self.old sent.old sent_disk.old got.old got_disk.old)
             (ways_of self.new sent.new sent_disk.new got.new got_disk.new) result }

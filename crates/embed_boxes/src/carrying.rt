@@ -98,9 +98,15 @@ fn through<X: LinkBox>(
 /// Both have this key, which may have any length, and a new journal in memory, which never fails:
 /// the only error is [`NotCarried::NoMemory`].
 pub fn carry(alloc: Global, key: &[u8], line: &[Tick]) -> Result<Carried, NotCarried>
+    /// The line has at most 2^62 ticks.
     requires { length line.now ≤ MAX_TICKS }
+    /// If there was memory, the link is what the transmitter's definition makes of the line, and
+    /// what is received is what the receiver's definition makes of this link. If the line's frames
+    /// are spaced, with enough silence after them and enough numbers, it is received whole, 18
+    /// ticks late.
     ensures carries { IfOk result (λ carried. Carries key.now line.now carried.link.items
         carried.received.items) }
+    /// The only error is that there was no memory.
     ensures memory { IfErr result (λ why. why ≡ NotCarried.NoMemory) }
 {
     let link = match through::<Sealer<Rtu, HmacSha1, 2>>(alloc, key, Dir::Ab, line) {

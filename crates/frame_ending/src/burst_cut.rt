@@ -37,7 +37,9 @@ impl<R: LineRules> BurstCut<R> {
 
     /// Returns a value that has taken no tick.
     pub fn new() -> BurstCut<R>
+        /// It has taken 0 ticks.
         ensures taken { ticks_taken result ≡ 0 }
+        /// It has taken no tick of a line.
         ensures stands { CutStandsFor R.LineRules result [] }
     {
         BurstCut {
@@ -157,10 +159,14 @@ impl<R: LineRules> BurstCut<R> {
     /// Takes the next tick, and returns what it is. Fewer than `MAX_TICKS` ticks were taken before.
     #[inline]
     pub fn step(&mut self, t: Tick) -> Cut
+        /// Fewer than 2^62 ticks were taken before.
         requires { ticks_taken self.old < MAX_TICKS }
+        /// One more tick is taken.
         ensures taken { ticks_taken self.new ≡ ticks_taken self.old + 1 }
+        /// The value has taken this tick after its line.
         ensures stands { (line : List Tick) → CutStandsFor R.LineRules self.old line
             → CutStandsFor R.LineRules self.new (line ++ t ∷ []) }
+        /// What is returned is what the tick is by the definition, after this line.
         ensures answer { (line : List Tick) → CutStandsFor R.LineRules self.old line
             → result ≡ cut_of R.rules line t }
     {
@@ -174,14 +180,20 @@ impl<R: LineRules> BurstCut<R> {
     /// running burst, and returns how many. It takes none if no burst runs.
     #[inline]
     pub fn go_on_some(&mut self, bytes: &[u8]) -> usize
+        /// The value has then taken at most 2^62 ticks.
         requires { ticks_taken self.old + length bytes.now ≤ MAX_TICKS }
+        /// No more bytes are taken than there are.
         ensures within { result ≤ length bytes.now }
+        /// The ticks that are taken are counted.
         ensures taken { ticks_taken self.new ≡ ticks_taken self.old + result }
+        /// The value has taken these ticks after its line.
         ensures stands { (line : List Tick) → CutStandsFor R.LineRules self.old line
             → CutStandsFor R.LineRules self.new (line ++ map Byte (take result bytes.now)) }
+        /// Each of them is a live byte by the definition.
         ensures live { (line : List Tick) → CutStandsFor R.LineRules self.old line
             → cuts_after R.rules line (map Byte (take result bytes.now))
             ≡ map Live (take result bytes.now) }
+        /// If not all are taken, the next byte wouldn't be another live one.
         ensures all { result < length bytes.now → (line : List Tick) (b : ℕ)
             → CutStandsFor R.LineRules self.new line → cut_of R.rules line (Byte b) ≡ Live b → ⊥ }
     {
@@ -203,13 +215,19 @@ impl<R: LineRules> BurstCut<R> {
     /// Takes `ticks` silent ticks if no burst runs, and returns how many it took: all or none.
     #[inline]
     pub fn rest_through(&mut self, ticks: u32) -> u32
+        /// The value has then taken at most 2^62 ticks.
         requires { ticks_taken self.old + ticks ≤ MAX_TICKS }
+        /// At most `ticks` ticks are taken.
         ensures within { result ≤ ticks }
+        /// The ticks that are taken are counted.
         ensures taken { ticks_taken self.new ≡ ticks_taken self.old + result }
+        /// The value has taken these ticks after its line.
         ensures stands { (line : List Tick) → CutStandsFor R.LineRules self.old line
             → CutStandsFor R.LineRules self.new (line ++ silent result) }
+        /// Each of them is silence outside a burst, by the definition.
         ensures quiet { (line : List Tick) → CutStandsFor R.LineRules self.old line
             → cuts_after R.rules line (silent result) ≡ replicate result Quiet }
+        /// If not all are taken, another silent tick wouldn't be one outside a burst.
         ensures all { result < ticks → (line : List Tick) → CutStandsFor R.LineRules self.new line
             → cut_of R.rules line Silent ≡ Quiet → ⊥ }
     {
@@ -232,14 +250,20 @@ impl<R: LineRules> BurstCut<R> {
     /// returns how many it took: all or none.
     #[inline]
     pub fn pass_over_some(&mut self, bytes: &[u8]) -> usize
+        /// The value has then taken at most 2^62 ticks.
         requires { ticks_taken self.old + length bytes.now ≤ MAX_TICKS }
+        /// No more bytes are taken than there are.
         ensures within { result ≤ length bytes.now }
+        /// The ticks that are taken are counted.
         ensures taken { ticks_taken self.new ≡ ticks_taken self.old + result }
+        /// The value has taken these ticks after its line.
         ensures stands { (line : List Tick) → CutStandsFor R.LineRules self.old line
             → CutStandsFor R.LineRules self.new (line ++ map Byte (take result bytes.now)) }
+        /// Each of them is a byte of the burst that isn't live, by the definition.
         ensures extra { (line : List Tick) → CutStandsFor R.LineRules self.old line
             → cuts_after R.rules line (map Byte (take result bytes.now))
             ≡ map Extra (take result bytes.now) }
+        /// If not all are taken, the next byte wouldn't be one that isn't live.
         ensures all { result < length bytes.now → (line : List Tick) (b : ℕ)
             → CutStandsFor R.LineRules self.new line → cut_of R.rules line (Byte b) ≡ Extra b → ⊥ }
     {
@@ -263,8 +287,11 @@ impl<R: LineRules> BurstCut<R> {
     /// Takes `ticks` silent ticks.
     #[inline]
     pub fn wait_some(&mut self, ticks: u32)
+        /// The value has then taken at most 2^62 ticks.
         requires { ticks_taken self.old + ticks ≤ MAX_TICKS }
+        /// These ticks are counted.
         ensures taken { ticks_taken self.new ≡ ticks_taken self.old + ticks }
+        /// The value has taken these silent ticks after its line.
         ensures stands { (line : List Tick) → CutStandsFor R.LineRules self.old line
             → CutStandsFor R.LineRules self.new (line ++ silent ticks) }
     {
@@ -338,7 +365,9 @@ impl<R: LineRules> BurstCut<R> {
     /// Returns how many ticks were taken.
     #[inline]
     pub fn ticks(&self) -> u64
+        /// It is what the value has counted.
         ensures taken { result ≡ ticks_taken self.now }
+        /// It is the length of the line that was taken.
         ensures count { (line : List Tick) → CutStandsFor R.LineRules self.now line
             → result ≡ length line }
     {

@@ -249,6 +249,7 @@ pub fn collect<F: FormReader>(
     whole: bool,
     file: &[u8],
 ) -> Result<Collected, NoMemory>
+    /// The file has at most 268,435,456 bytes.
     requires { length file.now ≤ 268435456 }
     ensures { IfOk result (λ collected. Collects F.format taking whole file.now collected.kept
         collected.end) }

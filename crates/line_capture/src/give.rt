@@ -159,13 +159,21 @@ pub fn give<S: Source, O: Sink, L: Sink>(
     out: &mut O,
     log: &mut L,
 ) -> Outcome
+    /// What was read of the input was given as a capture or refused, as the outcome says; or the
+    /// outcome is that there was no memory, and then nothing was written.
     ensures gives { GivesCapture giving.form giving.rate (told (S.left input.old) (S.faults input.old))
         (told (S.left input.new) (S.faults input.new))
         (held (O.held out.old) (L.held log.old)) (held (O.held out.new) (L.held log.new)) result }
+    /// If the outcome is a failed write, a count of a sink's faults rose. If it is done, neither
+    /// count changed.
     ensures sinks { SinkCause (O.faults out.old) (O.faults out.new) (L.faults log.old)
         (L.faults log.new) (status_in result) }
+    /// Both sinks were flushed, after all that was written, if the outcome is done. If it is a
+    /// failed write, at most `out` was, and otherwise neither.
     ensures flushes { FlushesAtEnd O.Sink L.Sink out.old out.new log.old log.new (status_in result) }
+    /// The input's count of faults never falls.
     ensures input { S.faults input.old ≤ S.faults input.new }
+    /// If the outcome is a failed read, the input's count of faults rose.
     ensures read_failed { result ≡ Outcome.Ended Status.ReadFault
         → Rose (S.faults input.old) (S.faults input.new) }
 {

@@ -36,12 +36,18 @@ pub struct Input {
 /// Reads the input to its end, or until a read fails or too many bytes came. Memory is taken for
 /// what was read, up to three times as much while it grows.
 pub fn read_input<S: Source>(alloc: Global, source: &mut S) -> Result<Input, NoMemory>
+    /// The bytes that are returned are the front of what the input had left, and the end says why
+    /// no more was read: the input's end, a failed read, or too many bytes.
     ensures reads { IfOk result (λ input. ReadsInput (S.left source.old) (S.left source.new)
         input.bytes.items input.end) }
+    /// At most 268,435,456 bytes are returned.
     ensures few { IfOk result (λ input. length input.bytes.items ≤ max_bytes) }
+    /// The input's count of faults never falls.
     ensures never_falls { S.faults source.old ≤ S.faults source.new }
+    /// The input's count of faults rose if a read failed, and is as it was otherwise.
     ensures failed { IfOk result (λ input. IsReadOf (S.faults source.old) (S.faults source.new)
         input.end) }
+    /// If there was no memory, the input's count of faults is as it was.
     ensures no_memory { OnErr result (S.faults source.new ≡ S.faults source.old) }
 {
     let mut bytes = Vec::new(alloc);

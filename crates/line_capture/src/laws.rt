@@ -23,13 +23,16 @@ use capture_pcap::written_header;
 /// each byte is in the same tick, counted from the first byte of either line. A line ends after its
 /// last byte, since a capture says nothing of the silence there.
 pub fn what_was_given_is_taken()
+    /// Let a run of `take` read what `give` made of two lines, at the same rate and both ways by
+    /// their times. If it is done, it writes the same bytes in the same ticks, counted from the
+    /// first byte of either line.
     ensures same { (form : GiveForm) (taken : TakeForm) (rate : Rate) (text : List ℕ)
         (a b : List Tick) (file : List ℕ) (in_before in_now : Told) (before now : CaptureHeld)
         (outcome : Outcome) → taken_as form ≡ Some taken → AreLinesOf form text a b
         → IsGiven form rate a b file → in_before.left ≡ Some file
         → TakesCapture (format_of taken) (both_ways rate) in_before in_now before now outcome
         → outcome ≡ Ended Done → TakesAgain a b before now }
-    // The capture is right for `take`, unless it is too long: no byte of it is refused.
+    /// What `give` made is right for `take`, unless it is too long: no byte of it is refused.
     ensures right { (form : GiveForm) (taken : TakeForm) (rate : Rate) (text : List ℕ)
         (a b : List Tick) (file : List ℕ) → taken_as form ≡ Some taken → AreLinesOf form text a b
         → IsGiven form rate a b file → length file ≤ max_bytes

@@ -175,10 +175,17 @@ pub fn write_line<O: Sink, L: Sink>(
     out: &mut O,
     log: &mut L,
 ) -> Result<LineEnd, Failed>
+    /// `out` has got the canonical text of the way's line, up to the first byte that isn't placed,
+    /// and the end says how many bytes overlap and why the line stopped. After a failed write it
+    /// has got a front of the text of some first ticks.
     ensures line { WritesLine timing bytes.now (O.held out.old) (O.held out.new) result }
+    /// The log is as it was.
     ensures log { L.held log.new ≡ L.held log.old }
+    /// A write fails only if a count of the sinks' faults rose. Neither count ever falls, and if no
+    /// write fails both are as they were.
     ensures cause { HaveCause (O.faults out.old) (O.faults out.new) (L.faults log.old)
         (L.faults log.new) result }
+    /// Neither sink is flushed.
     ensures flushes { NoneFlushed O.Sink L.Sink out.old out.new log.old log.new }
 {
     let mut texts = Texts::new();

@@ -114,17 +114,19 @@ pub fn run<S: Source, O: Sink, L: Sink>(
     out: &mut O,
     log: &mut L,
 ) -> Outcome
-    // The outcome is Usage exactly if the words ask for no command.
+    /// The outcome is `Usage` exactly if the words ask for no command.
     ensures usage { (result ≡ Outcome.Ended Status.Usage)
         ↔ AsksFor IsCaptureCommand (map string_bytes words.now) None }
 
-    // What was read and written, and the fault line after it. If the input is right, the outcome is
-    // Done, unless something fails outside or there is no memory.
+    /// What was read and written is what the command's record says of the outcome, and after it
+    /// comes the fault line. If the input is right, the outcome is done, unless something fails
+    /// outside or there is no memory.
     ensures runs { CaptureRuns S.Source O.Sink L.Sink (map string_bytes words.now)
         (capture_outside input.old out.old log.old) (capture_outside input.new out.new log.new) result }
 
-    // The outcome is a fault of reading or writing only if a count of faults rose. If it is Done,
-    // no write has failed, and `out` was flushed and then the log.
+    /// The outcome is a fault of reading or of writing only if a count of such faults rose. If it
+    /// is done, no write has failed, and `out` and the log were each flushed once, after all that
+    /// was written.
     ensures causes { RunCauses S.Source O.Sink L.Sink (capture_outside input.old out.old log.old)
         (capture_outside input.new out.new log.new) result }
 {
@@ -142,12 +144,14 @@ pub fn run_over_args<S: Source, O: Sink, L: Sink>(
     out: &mut O,
     log: &mut L,
 ) -> u8
-    // If the runtime gives no words, nothing is done.
+    /// If the system gives no words, the exit status is 13.
     ensures no_words { IsErr args → result ≡ 13 }
+    /// If the system gives no words, the input, the output and the log are as they were.
     ensures untouched { IsErr args
         → capture_outside input.new out.new log.new ≡ capture_outside input.old out.old log.old }
 
-    // What was done, and the exit status.
+    /// The exit status is that of the outcome of a run with these words, of which all holds that
+    /// `run` promises; or it is that of no memory, and all is as it was.
     ensures ends { IfOk args (λ given. EndsOverArgs S.Source O.Sink L.Sink (words_after given)
         (capture_outside input.old out.old log.old) (capture_outside input.new out.new log.new) result) }
 {

@@ -24,30 +24,41 @@ pub trait FormReader: Drop {
 
     /// Returns a reader that has taken nothing yet.
     fn begin() -> Self
+        /// The reader has taken no byte and returned no item.
         ensures stands { stands result [] [] }
+        /// By the form, no bytes are right so far, with no item.
         ensures begins { format.begins [] [] }
+        /// It has taken 0 bytes.
         ensures taken { taken result ≡ 0 };
 
     /// Takes the next byte of the file, and returns the byte of the line or the event that it ends,
     /// if it ends one.
     fn feed(&mut self, b: u8) -> Result<Option<Seen>, BadCapture>
+        /// Fewer than 2^62 bytes were taken before.
         requires { taken self.old < MAX_BYTES }
+        /// If the byte isn't refused, the reader has taken it, and has returned one item more if it
+        /// returns one.
         ensures stands { (file : List ℕ) (items : List Seen) → stands self.old file items
             → IfOk result (λ seen. stands self.new (file ++ b ∷ [])
             (items ++ option_to_list seen)) }
-        // The bytes so far are right with these items, and each capture that begins with them has
-        // these items first.
+        /// If the byte isn't refused, the bytes so far are right with these items, and each capture
+        /// that begins with them has these items first.
         ensures begins { (file : List ℕ) (items : List Seen) → stands self.old file items
             → IfOk result (λ seen. format.begins (file ++ b ∷ [])
             (items ++ option_to_list seen)) }
+        /// If the byte is refused, the form refuses it there, with this cause.
         ensures refused { (file : List ℕ) (items : List Seen) → stands self.old file items
             → IfErr result (λ bad. format.refuses file items b bad) }
+        /// A byte that isn't refused is counted.
         ensures taken { OnOk result (taken self.new ≡ taken self.old + 1) };
 
     /// Takes the end of the file.
     fn finish(self) -> Result<(), BadCapture>
+        /// If the end is taken, the bytes are a capture of the form with the items that were
+        /// returned.
         ensures right { (file : List ℕ) (items : List Seen) → stands self file items
             → OnOk result (format.is file items) }
+        /// If the end is refused, the form says of these bytes what they lack.
         ensures refused { (file : List ℕ) (items : List Seen) → stands self file items
             → IfErr result (λ bad. format.lacks file items bad) };
 

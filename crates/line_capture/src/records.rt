@@ -184,7 +184,9 @@ pub fn recorded(
     a: &[Tick],
     b: &[Tick],
 ) -> Result<Vec<u8>, NoMemory>
+    /// Line A has at most 16,777,216 ticks.
     requires a { length a.now ≤ max_ticks }
+    /// Line B has at most 16,777,216 ticks.
     requires b { length b.now ≤ max_ticks }
     ensures { IfOk result (λ text. IsRecorded form rate a.now b.now text.items) }
 {

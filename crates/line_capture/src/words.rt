@@ -204,7 +204,9 @@ fn read_five(verb: &str, form: &str, rate: &str, ways: &str, last: &str) -> Resu
 /// Returns the command that the words after the program's name ask for. Words are compared byte for
 /// byte.
 pub fn read_words(words: &[String]) -> Result<Command, Usage>
+    /// The words ask for the command that is returned.
     ensures ok { IfOk result (λ command. IsCaptureCommand (map string_bytes words.now) command) }
+    /// If `Usage` is returned, the words ask for no command.
     ensures usage { OnErr result ((command : Command)
         → IsCaptureCommand (map string_bytes words.now) command → ⊥) }
 {

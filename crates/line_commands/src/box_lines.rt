@@ -44,17 +44,28 @@ impl<B: LineBox> BoxLines<B> {
     /// Returns a box that has taken no tick, with no text yet. This journal, which serves the box's
     /// link, is what the disk holds.
     pub fn new(key: &[u8], dir: Dir, journal: Journal) -> BoxLines<B>
+        /// The widths of the box are ones that it can be made with.
         requires widths { B.widths_fit }
+        /// The journal serves the link of a box of this direction.
         requires link { journal_link journal ≡ B.link_in dir }
+        /// No call on the journal has failed.
         requires whole { is_broken journal ≡ false }
+        /// The box has taken 0 ticks.
         ensures taken { B.taken (box_in result) ≡ 0 }
+        /// The disk is taken to hold this journal.
         ensures disk { disk_journal (late_in result) ≡ journal }
+        /// Over a disk that holds this journal, the box may take ticks.
         ensures may { (told : Option Slots) → Fits journal told
             → MayDrive B.LinkBox B.line_of result told }
+        /// The box begins with this key and direction at the journal's floor, with no tick taken.
         ensures stands { StandsAfter B.LinkBox B.line_of result
             (setup_of key.now dir (journal_floor journal)) [] }
+        /// Nothing waits.
         ensures waits { Waits (waits_in result) [] [] }
+        /// The last number used is the journal's floor.
         ensures number { number_in result ≡ journal_floor journal }
+        /// Over whatever the sinks hold and the disk tells, the box is driven from here on, and
+        /// nothing has gone out yet.
         ensures drives { (link : LinkId) (texts : SinkTexts) (told : Option Slots)
             → journal_link journal ≡ link
             → DrivesBox B.LinkBox B.line_of result
@@ -133,9 +144,13 @@ impl<B: LineBox> BoxLines<B> {
     /// once, or one tick if that is none. Returns how many.
     #[inline(always)]
     pub fn take_some(&mut self, run: TickRun<'_>) -> usize
+        /// There is at least one tick.
         requires some { 0 < length (run_ticks run) }
+        /// The box has then taken at most 2^62 ticks.
         requires count { B.taken (box_in self.old) + length (run_ticks run) ≤ MAX_TICKS }
+        /// Journal and box serve one link, and have the same last number.
         requires ready { BoxLinesAreReady B.LinkBox B.line_of self.old }
+        /// There is room for what a few ticks complete.
         requires room { TextHasRoom (texts_at self.old) }
         ensures { TakesSome B.LinkBox B.line_of self.old self.new (run_ticks run.entry) result }
     {
@@ -155,7 +170,13 @@ impl<B: LineBox> BoxLines<B> {
     /// Brings the disk to the journal, and then adds the line that isn't filled to the text that
     /// waits. All that waits may go out then, before the call of `empty` that must come next.
     pub fn settle<D: SlotDisk>(&mut self, disk: &mut D) -> Result<(), JournalFault>
+        /// Journal and box serve one link, there is room for the line that isn't filled, and the
+        /// disk is as the journal knows it.
         requires { MayHandOut B.LinkBox B.line_of self.old (D.told disk.old) }
+        /// The floor of the disk is the last number used, and the line that isn't filled waits with
+        /// the rest; or the disk's count of faults rose, and its floor is between the one before
+        /// and the last number used. If the journal was crash-safe, it still is, and no crash at
+        /// any moment leaves a lower floor.
         ensures { Settles B.LinkBox B.line_of D.SlotDisk self.old self.new disk.old disk.new
             result }
     {
@@ -170,7 +191,9 @@ impl<B: LineBox> BoxLines<B> {
 
     /// Returns the last number that the box has used.
     pub fn number(&self) -> u64
+        /// It is the last number that the box has used.
         ensures value { result ≡ number_in self.now }
+        /// It is at most 2^48 - 1.
         ensures within { result ≤ LIMIT }
     {
         self.journal.floor()
@@ -200,7 +223,9 @@ impl<B: LineBox> BoxLines<B> {
     /// Whether there is room for what the next ticks complete.
     #[inline]
     pub fn has_room(&self) -> bool
+        /// If it is true, there is room for what the next few ticks complete.
         ensures room { result ≡ true → TextHasRoom (texts_at self.now) }
+        /// If it is false, there isn't.
         ensures full { result ≡ false → TextHasRoom (texts_at self.now) → ⊥ }
     {
         self.texts.has_room()
@@ -214,8 +239,13 @@ impl<B: LineBox> BoxLines<B> {
         log: &mut L,
         disk: &mut D,
     ) -> Result<(), Stop>
+        /// Journal and box serve one link, and have the same last number.
         requires ready { BoxLinesAreReady B.LinkBox B.line_of self.old }
+        /// The disk is as the journal knows it.
         requires fits { Fits (disk_journal (late_in self.old)) (D.told disk.old) }
+        /// The box is driven as before, and may take ticks; or it stopped at a settle that failed,
+        /// behind which nothing went out, or at a write that failed, behind which each sink has a
+        /// front, the notes first. Each fault comes only if its object's count rose.
         ensures { HandsOn B.LinkBox B.line_of O.Sink L.Sink D.SlotDisk
             (state_of_lines self.old out.old log.old disk.old)
             (state_of_lines self.new out.new log.new disk.new) result }
@@ -237,8 +267,12 @@ impl<B: LineBox> BoxLines<B> {
         log: &mut L,
         disk: &mut D,
     ) -> Result<(), Stop>
+        /// Journal and box serve one link, and have the same last number.
         requires ready { BoxLinesAreReady B.LinkBox B.line_of self }
+        /// The disk is as the journal knows it.
         requires fits { Fits (disk_journal (late_in self)) (D.told disk.old) }
+        /// The sinks have got all that the box makes of its line, and the disk's floor is the last
+        /// number used; or it stopped at a settle or a write that failed, as in `hand_out`.
         ensures { Finishes B.LinkBox B.line_of O.Sink L.Sink D.SlotDisk
             (state_of_lines self out.old log.old disk.old) out.new log.new disk.new result }
     {

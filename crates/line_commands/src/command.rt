@@ -93,15 +93,26 @@ pub fn replay_box<B: LineBox, K: Source, S: Source, O: Sink, L: Sink, D: SlotDis
     rest: u32,
     ends: Ends<K, S, O, L, D>,
 ) -> Status
+    /// The widths of the box are ones that it can be made with.
     requires widths { B.widths_fit }
+    /// The direction of the link is 0 or 1.
     requires link { HasDirection link.now }
+    /// The link is that of a box of this direction.
     requires of_box { link.now ≡ B.link_in dir }
+    /// What was read and written, the floor of the disk at the end, and the uptimes that a crash
+    /// then leaves, are what the record of the command says for the status.
     ensures replays { ReplaysBox K.Source S.Source O.Sink L.Sink D.SlotDisk
         (boxed_of B.walking B.line_of) link.now dir rest (outside_before ends.entry) (outside_after ends.exit) result }
+    /// If a crash before the run would have left the slots as they read, with a floor, no crash at
+    /// any moment leaves a floor below it, or an old journal was being taken over.
     ensures any_moment { KeepsFloorThroughout D.SlotDisk link.now ends.entry.disk.now
         (outside_after ends.exit).disk }
+    /// The status of a failed read or write comes only if a count of such faults rose, and the
+    /// sinks are flushed as the status says.
     ensures causes { HasStreamCauses K.Source S.Source O.Sink L.Sink (outside_before ends.entry)
         (outside_after ends.exit) result }
+    /// The disk's count of faults rose if the status is that of a failed journal, and is as it was
+    /// otherwise.
     ensures disk { DiskCause (D.faults ends.entry.disk.now)
         (D.faults (outside_after ends.exit).disk) result }
 {

@@ -65,7 +65,9 @@ impl LineReader {
     /// Returns the bytes of the line that ended last, if it was a line of bytes.
     #[inline]
     pub fn line_bytes(&self) -> &[u8]
+        /// They are the bytes of the last line that ended, if it was a line of bytes.
         ensures bytes { result.now ≡ lent_lines self.now }
+        /// There are at most 32.
         ensures few { length result.now ≤ 32 }
     {
         self.reader.line_bytes()
@@ -88,11 +90,19 @@ impl LineReader {
 
     /// Reads bytes up to and including the end of the line, or all of them if the line doesn't end.
     pub fn feed(&mut self, bytes: &[u8]) -> Result<ReadBytes, End>
+        /// There is at least one byte.
         requires some { 0 < length bytes.now }
+        /// There are at most 65,536 bytes.
         requires few { length bytes.now ≤ 65536 }
+        /// Unless the text is refused, at least one byte is taken.
         ensures progress { IfOk result (λ found. 0 < found.taken) }
+        /// No more bytes are taken than there are.
         ensures within { IfOk result (λ found. found.taken ≤ length bytes.now) }
+        /// An error is a refused text or one that is too long, and no fault.
         ensures of_text { IfErr result IsOfText }
+        /// What is returned are the items of the line that ended, if one did. A refusal has the
+        /// place and the cause of the text's refused byte. A text is too long only if more than
+        /// 2^31 bytes came after the last line with ticks.
         ensures answer { (text : List ℕ) → HasRead self.old text
             → FeedAnswer self.new text bytes.now result }
     {
@@ -116,7 +126,10 @@ impl LineReader {
 
     /// Takes the end of the text, and returns the run of a last line without an LF.
     pub fn finish(self) -> Result<Run, End>
+        /// An error is a refused text or one that is too long, and no fault.
         ensures of_text { IfErr result IsOfText }
+        /// The text is right, with the run of the last line; or it is refused at its refused place,
+        /// for its cause.
         ensures answer { (text : List ℕ) → HasRead self text → LinesFinishAnswer text result }
     {
         let LineReader { reader, line, .. } = self;

@@ -30,7 +30,9 @@ pub(crate) fn numbered_line(word: &[u8], number: u64, start: u64, len: u16) -> N
 /// Returns the line `WORD at S WHY` of a burst from which no frame gets through: its start, and
 /// why. `word` includes ` at `, and `why` includes the space before the reason and the LF.
 pub fn placed_line(word: &[u8], start: u64, why: &[u8]) -> NoteLine
+    /// The word has at most 12 bytes.
     requires word { length word.now ≤ 12 }
+    /// The reason has at most 9 bytes.
     requires why { length why.now ≤ 9 }
     ensures { result.items ≡ placed_line word.now start why.now }
 {

@@ -46,12 +46,22 @@ pub fn read_frames<V: Device + Drop, S: Source, O: Sink, L: Sink>(
     out: &mut O,
     log: &mut L,
 ) -> Status
+    /// `out` has got the lines of exactly the frames that the device reads of the ticks that were
+    /// taken, or a front of them if a write failed; and the status says what was taken of the
+    /// input.
     ensures frames { PrintsFrames V.reads (S.left input.old) (S.left input.new)
         (O.held out.old) (O.held out.new) result }
+    /// The log holds what it held.
     ensures log { L.held log.new ≡ L.held log.old }
+    /// The input's count of faults rose if a read failed, and is otherwise as it was, unless a
+    /// write failed.
     ensures input { InputCause (S.faults input.old) (S.faults input.new) result }
+    /// If the status is that of a failed write, a count of a sink's faults rose. If it is `Done`,
+    /// neither count changed.
     ensures sinks { SinkCause (O.faults out.old) (O.faults out.new)
         (L.faults log.old) (L.faults log.new) result }
+    /// Both sinks were flushed, after all that was written, if the status is `Done`. If it is that
+    /// of a failed write, at most `out` was, and otherwise neither.
     ensures flushes { FlushesAtEnd O.Sink L.Sink out.old out.new log.old log.new result }
 {
     let mut device = V::fresh();

@@ -114,11 +114,17 @@ pub fn record_both<S: LineBox, C: LineBox, I: Source>(
     outgoing: Dir,
     input: &mut I,
 ) -> Result<Recorded, End>
+    /// The widths of the transmitter are ones that it can be made with.
     requires outgoing { S.widths_fit }
+    /// The widths of the receiver are ones that it can be made with.
     requires incoming { C.widths_fit }
+    /// If the input ends whole, with one mark, the texts are those of both boxes' lines and notes,
+    /// with the silence that follows. Otherwise it is said how the input ended and what was taken
+    /// of it; it is stopped only for want of memory.
     ensures records { RecordsBoth (AreMade (both_with (timed_of S.walking S.line_of)
         (timed_of C.walking C.line_of) key.now outgoing)) (I.left input.old) (I.left input.new)
         result }
+    /// It ends with a failed read only if the input's count of faults rose.
     ensures read { IsReadCause (I.faults input.old) (I.faults input.new) (is_read_answer result) }
 {
     let mut both = BothBoxes::<S, C>::new(alloc, key, outgoing);
@@ -156,12 +162,19 @@ fn write_lines<O: Sink>(recorded: &Recorded, out: &mut O) -> Result<(), Failed>
 /// Writes the lines of the notes to the log, and then the text of both lines to `out`: the ticks of
 /// the link, a mark, and the ticks for the device.
 pub fn print_both<O: Sink, L: Sink>(recorded: &Recorded, out: &mut O, log: &mut L) -> Status
+    /// The log has got all notes, and `out` the text of both lines; or a write or a flush failed,
+    /// and each has got a front, with nothing in `out` before all notes are in the log.
     ensures prints { (texts : BothTexts) → HoldsTexts recorded.now texts
         → PrintsBoth texts (O.held out.old) (O.held out.new) (L.held log.old) (L.held log.new)
         result }
+    /// The status is `Done` or that of a failed write.
     ensures status { (result ≡ Status.Done) ⊎ (result ≡ Status.WriteFault) }
+    /// If the status is that of a failed write, a count of a sink's faults rose. If it is `Done`,
+    /// neither count changed.
     ensures sinks { SinkCause (O.faults out.old) (O.faults out.new) (L.faults log.old)
         (L.faults log.new) result }
+    /// Both sinks were flushed, after all that was written, if the status is `Done`, and otherwise
+    /// at most `out` was.
     ensures flushes { FlushesAtEnd O.Sink L.Sink out.old out.new log.old log.new result }
 {
     let Ok(()) = write_all(log, recorded.notes.as_slice()) else {

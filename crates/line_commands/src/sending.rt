@@ -34,8 +34,12 @@ fn send_any<P: Port>(port: &mut P, to: Output, bytes: &[u8]) -> Result<(), Faile
 /// Hands on what is made of some ticks of a line: the lines of their notes, and then a text of the
 /// ticks of the other line. Each is written and flushed, unless it is empty.
 pub fn hand_on<P: Port>(port: &mut P, notes: &[u8], text: &[u8]) -> Result<(), Failed>
+    /// If what is made of a line was written and flushed in order, the notes of these ticks and the
+    /// text of the other line's ticks then are too. If a call failed, fronts of them were written,
+    /// the notes first.
     ensures hands { (answer : List Tick) → IsTextOf text.now answer
         → Hands P.Port port.old port.new answer notes.now result }
+    /// An output's count of faults rose if a call failed, and none did otherwise. Nothing was read.
     ensures cause { WritesCause P.Port port.old port.new result }
 {
     if notes.is_empty() {

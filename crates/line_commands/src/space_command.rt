@@ -88,15 +88,26 @@ pub fn space_frames<B: LineSpacer, S: Source, O: Sink, L: Sink>(
     out: &mut O,
     log: &mut L,
 ) -> Status
+    /// There is at least one silent tick between frames.
     requires { B.gap_fits }
+    /// The sinks have got the text of the spaced line of the ticks that were taken, and a line for
+    /// each frame that is lost, or fronts of both if a write failed; and the status says what was
+    /// taken of the input.
     ensures spaces { SpacesLine (spaced_texts B.reads B.gap) (S.left input.old) (S.left input.new)
         (sink_texts (O.held out.old) (L.held log.old))
         (sink_texts (O.held out.new) (L.held log.new)) result }
+    /// If there was no memory, the input and both sinks are as they were.
     ensures untouched { result ≡ no_memory
         → (input.new ≡ input.old) × ((out.new ≡ out.old) × (log.new ≡ log.old)) }
+    /// The input's count of faults rose if a read failed, and is otherwise as it was, unless a
+    /// write failed.
     ensures input { InputCause (S.faults input.old) (S.faults input.new) result }
+    /// If the status is that of a failed write, a count of a sink's faults rose. If it is `Done`,
+    /// neither count changed.
     ensures sinks { SinkCause (O.faults out.old) (O.faults out.new)
         (L.faults log.old) (L.faults log.new) result }
+    /// Both sinks were flushed, after all that was written, if the status is `Done`. If it is that
+    /// of a failed write, at most `out` was, and otherwise neither.
     ensures flushes { FlushesAtEnd O.Sink L.Sink out.old out.new log.old log.new result }
 {
     let mut spacer = match B::new(alloc) {

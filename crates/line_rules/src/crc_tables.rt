@@ -24,6 +24,7 @@ pub(crate) fn shifted<const POLY: u16>(tables: &CrcTables, place: usize, byte: u
 /// Returns the register after the byte `b`, if it was `r` before, by the tables of the polynomial.
 #[inline]
 pub fn step_by_table<const POLY: u16>(tables: &CrcTables, r: u16, b: u8) -> u16
+    /// The tables are those of the polynomial.
     requires { AreCrcTables POLY tables.now }
     ensures { result ≡ crc POLY r (b ∷ []) }
 {
@@ -36,8 +37,11 @@ pub fn step_by_table<const POLY: u16>(tables: &CrcTables, r: u16, b: u8) -> u16
 /// its own shifts and those of the bytes after it, independently of the others.
 #[inline]
 pub fn crc_at_once<const POLY: u16>(tables: &CrcTables, r: u16, bytes: &[u8]) -> u16
+    /// The tables are those of the polynomial.
     requires right { AreCrcTables POLY tables.now }
+    /// There are at least two bytes.
     requires some { 2 ≤ length bytes.now }
+    /// There are at most eighteen bytes.
     requires few { length bytes.now ≤ 18 }
     ensures { result ≡ crc POLY r bytes.now }
 {
@@ -56,6 +60,7 @@ pub fn crc_at_once<const POLY: u16>(tables: &CrcTables, r: u16, bytes: &[u8]) ->
 /// It takes eighteen bytes at a time.
 #[inline]
 pub fn crc_by_tables<const POLY: u16>(tables: &CrcTables, r: u16, bytes: &[u8]) -> u16
+    /// The tables are those of the polynomial.
     requires { AreCrcTables POLY tables.now }
     ensures { result ≡ crc POLY r bytes.now }
 {

@@ -35,7 +35,9 @@ impl<R: LineRules> Outlet<R> {
     /// Begins with another burst, of which no byte has left.
     #[inline]
     pub fn begin(&mut self)
+        /// No byte of a fill is owed.
         ensures owed { owed_by self.new ≡ 0 }
+        /// The bytes of the last refused burst are as they were.
         ensures refused { refused_by self.new ≡ refused_by self.old }
     {
         self.owed = 0;
@@ -45,7 +47,9 @@ impl<R: LineRules> Outlet<R> {
     /// haven't left yet.
     #[inline]
     pub fn refuse(&mut self, all: R)
+        /// These are the bytes of the last refused burst.
         ensures refused { refused_by self.new ≡ all }
+        /// What is owed of a fill is as it was.
         ensures owed { owed_by self.new ≡ owed_by self.old }
     {
         self.refused = all;
@@ -55,15 +59,21 @@ impl<R: LineRules> Outlet<R> {
     /// burst that isn't passed. Such a burst must have been refused before.
     #[inline]
     pub fn emit(&mut self, b: u8, last: bool, passed: bool) -> u8
+        /// It is the byte itself; but the last one of a burst that isn't passed and lacks no byte
+        /// is spoiled.
         ensures answer { (x : List ℕ)
             → (last ≡ true → passed ≡ false → OutletRefuses R.LineRules self.old (x ++ b ∷ []))
             → result ≡ emitted R.rules x b last passed }
+        /// Of a fill, as many bytes are owed as the burst lacks after its last byte, if it isn't
+        /// passed, and otherwise none.
         ensures owed { (x : List ℕ)
             → (last ≡ true → passed ≡ false → OutletRefuses R.LineRules self.old (x ++ b ∷ []))
             → owed_by self.new ≡ owed_after R.rules x b last passed }
+        /// The outlet represents the bytes with this one.
         ensures stands { (x : List ℕ)
             → (last ≡ true → passed ≡ false → OutletRefuses R.LineRules self.old (x ++ b ∷ []))
             → OutletStandsForTicks R.LineRules self.new (x ++ b ∷ []) }
+        /// The bytes of the last refused burst are as they were.
         ensures refused { refused_by self.new ≡ refused_by self.old }
     {
         if !last {
@@ -84,12 +94,17 @@ impl<R: LineRules> Outlet<R> {
     /// Returns the next byte of the fill, or `None` if none is owed.
     #[inline]
     pub fn fill(&mut self) -> Option<u8>
+        /// The outlet represents its bytes with the one that is returned.
         ensures stands { (x : List ℕ) → OutletStandsForTicks R.LineRules self.old x
             → OutletStandsForTicks R.LineRules self.new (x ++ filled_bytes result) }
+        /// It is 00, or for the last byte of the fill what 00 is spoiled to; or none if none is
+        /// owed.
         ensures answer { (x : List ℕ) → OutletStandsForTicks R.LineRules self.old x
             → result ≡ filled R.rules x (owed_by self.old) }
+        /// One byte fewer is owed.
         ensures owed { (x : List ℕ) → OutletStandsForTicks R.LineRules self.old x
             → owed_by self.new ≡ owed_by self.old - 1 }
+        /// If none is owed, the outlet is as it was.
         ensures unowed { owed_by self.old ≡ 0 → self.new ≡ self.old }
     {
         if self.owed == 0 {

@@ -86,9 +86,13 @@ impl<V: Device, const GAP: usize> Spacer<V, GAP> {
     /// A spacer that has taken no tick, with room for `cap` frames to wait. It takes its memory
     /// here, and none later.
     pub fn new(alloc: Global, cap: usize) -> Result<Spacer<V, GAP>, NoMemory>
+        /// There is at least one silent tick between frames.
         requires gap { 0 < GAP }
+        /// It has taken 0 ticks.
         ensures taken { IfOk result (λ spacer. ticks_spaced V.Device spacer ≡ 0) }
+        /// It begins with room for `cap` waiting frames, with no tick taken.
         ensures stands { IfOk result (λ spacer. SpacerStandsFor V.Device cap spacer []) }
+        /// It has answered no tick, and owes none.
         ensures owes { IfOk result (λ spacer. Owes V.Device cap spacer [] [] []) }
     {
         let queue = FrameQueue::with_capacity(alloc, cap)?;
@@ -310,16 +314,25 @@ impl<V: Device, const GAP: usize> Spacer<V, GAP> {
     /// frame is read. Lends the bytes that leave, one in each tick, or none if silence leaves.
     #[inline(always)]
     pub fn take_some(&mut self, run: TickRun<'_>) -> SpaceRun
+        /// The spacer has then taken at most 2^62 ticks.
         requires room { ticks_spaced V.Device self.old + length (run_ticks run) ≤ MAX_TICKS }
+        /// There is at least one tick.
         requires some { 0 < length (run_ticks run) }
+        /// At least one tick is taken.
         ensures some { 0 < result.taken }
+        /// No more ticks are taken than there are.
         ensures within { result.taken ≤ length (run_ticks run.entry) }
+        /// The ticks that are taken are counted.
         ensures taken { ticks_spaced V.Device self.new
             ≡ ticks_spaced V.Device self.old + result.taken }
+        /// There is a byte for each tick that is taken, or none at all.
         ensures long { length (answered result.taken (bytes_sent self.new)) ≡ result.taken }
+        /// The spacer has taken these ticks after its line.
         ensures stands { (cap : ℕ) (line : List Tick) → SpacerStandsFor V.Device cap self.old line
             → SpacerStandsFor V.Device cap self.new
             (line ++ take result.taken (run_ticks run.entry)) }
+        /// What leaves is what the spaced line goes on with, and a frame that is lost was read in
+        /// the last of these ticks.
         ensures answer { (cap : ℕ) (line : List Tick) → SpacerStandsFor V.Device cap self.old line
             → AnswersSpaced V.reads GAP cap line (take result.taken (run_ticks run.entry))
             (answered result.taken (bytes_sent self.new)) (length line + (result.taken - 1))
@@ -339,12 +352,19 @@ impl<V: Device, const GAP: usize> Spacer<V, GAP> {
     /// answers them.
     #[inline(always)]
     pub fn hear_some(&mut self, run: TickRun<'_>) -> Met
+        /// The spacer has then taken at most 2^62 ticks.
         requires room { ticks_spaced V.Device self.old + length (run_ticks run) ≤ MAX_TICKS }
+        /// There is at least one tick.
         requires some { 0 < length (run_ticks run) }
+        /// At least one tick is taken.
         ensures some { 0 < result.taken }
+        /// No more ticks are taken than there are.
         ensures within { result.taken ≤ length (run_ticks run.entry) }
+        /// The ticks that are taken are counted.
         ensures taken { ticks_spaced V.Device self.new
             ≡ ticks_spaced V.Device self.old + result.taken }
+        /// If no frame that was read is owed yet, the spacer owes the answers of these ticks too,
+        /// and the frame that was read in the last of them, if one was.
         ensures owes { (cap : ℕ) (line owed : List Tick) → Owes V.Device cap self.old line owed []
             → Owes V.Device cap self.new line (owed ++ take result.taken (run_ticks run.entry))
             (frames_lent result.start (spaced_bytes_lent V.lent self.new)) }
@@ -372,9 +392,13 @@ impl<V: Device, const GAP: usize> Spacer<V, GAP> {
     /// whether it did.
     #[inline(never)]
     pub fn queue_read(&mut self, owed: usize) -> bool
+        /// At least one tick is owed.
         requires { 0 < owed }
+        /// No tick is taken.
         ensures taken { ticks_spaced V.Device self.new ≡ ticks_spaced V.Device self.old }
+        /// If it returns false, the spacer is as it was.
         ensures stays { result ≡ false → self.new ≡ self.old }
+        /// If it returns true, the frame is queued, and the spacer owes the same ticks.
         ensures owes { result ≡ true → (cap start : ℕ) (line ticks : List Tick)
             → length ticks ≡ owed
             → Owes V.Device cap self.old line ticks
@@ -397,18 +421,29 @@ impl<V: Device, const GAP: usize> Spacer<V, GAP> {
     /// that leave, one in each tick, or none if silence leaves.
     #[inline(always)]
     pub fn give_some(&mut self, owed: usize, read: Option<u64>) -> SpaceRun
+        /// At least one tick is owed.
         requires { 0 < owed }
+        /// At least one tick is answered.
         ensures some { 0 < result.taken }
+        /// No more ticks are answered than are owed.
         ensures within { result.taken ≤ owed }
+        /// Fewer than 1,000,000 ticks are answered.
         ensures short { result.taken < 1000000 }
+        /// No tick is taken.
         ensures taken { ticks_spaced V.Device self.new ≡ ticks_spaced V.Device self.old }
+        /// The bytes of the frame that it lends are as they were.
         ensures lent { spaced_bytes_lent V.lent self.new ≡ spaced_bytes_lent V.lent self.old }
+        /// There is a byte for each tick that is answered, or none at all.
         ensures long { length (answered result.taken (bytes_sent self.new)) ≡ result.taken }
+        /// The answered ticks are owed no more, and neither is the frame, unless it was read in a
+        /// tick that still is.
         ensures owes { (cap : ℕ) (line ticks : List Tick) → length ticks ≡ owed
             → Owes V.Device cap self.old line ticks (frames_lent read (spaced_bytes_lent V.lent self.old))
             → Owes V.Device cap self.new (line ++ take result.taken ticks)
             (drop result.taken ticks) (still_read (drop result.taken ticks)
             (frames_lent read (spaced_bytes_lent V.lent self.old))) }
+        /// What leaves is what the spaced line goes on with for these ticks, and a frame that is
+        /// lost was read in the last of them.
         ensures answer { (cap : ℕ) (line ticks : List Tick) → length ticks ≡ owed
             → Owes V.Device cap self.old line ticks (frames_lent read (spaced_bytes_lent V.lent self.old))
             → AnswersSpaced V.reads GAP cap line (take result.taken ticks)
@@ -457,10 +492,15 @@ impl<V: Device, const GAP: usize> Spacer<V, GAP> {
     /// and the frame that is lost in this step, if one is. Fewer than `MAX_TICKS` ticks were taken
     /// before.
     pub fn step(&mut self, t: Tick) -> SpaceStep
+        /// Fewer than 2^62 ticks were taken before.
         requires { ticks_spaced V.Device self.old < MAX_TICKS }
+        /// One more tick is taken.
         ensures taken { ticks_spaced V.Device self.new ≡ ticks_spaced V.Device self.old + 1 }
+        /// The spacer has taken this tick after its line.
         ensures stands { (cap : ℕ) (line : List Tick) → SpacerStandsFor V.Device cap self.old line
             → SpacerStandsFor V.Device cap self.new (line ++ t ∷ []) }
+        /// The tick that leaves is the one that the spaced line goes on with, and the frame that is
+        /// returned is lost by the definition in this step.
         ensures answer { (cap : ℕ) (line : List Tick) → SpacerStandsFor V.Device cap self.old line
             → AnswersSpaced V.reads GAP cap line (t ∷ []) (result.tick ∷ []) (length line)
             (frames_lent result.lost (spaced_bytes_lent V.lent self.new)) }
@@ -474,7 +514,9 @@ impl<V: Device, const GAP: usize> Spacer<V, GAP> {
     /// The bytes that left in the last ticks taken, one in each tick, or none if silence left.
     #[inline(always)]
     pub fn sent_bytes(&self) -> &[u8]
+        /// They are the bytes that left in the last ticks taken.
         ensures bytes { result.now ≡ bytes_sent self.now }
+        /// There are at most 292.
         ensures few { length result.now ≤ 292 }
     {
         &self.room[self.before..self.sent]
@@ -483,7 +525,9 @@ impl<V: Device, const GAP: usize> Spacer<V, GAP> {
     /// The bytes of the frame that was read in the last tick taken, which the device lends.
     #[inline]
     pub fn frame_bytes(&self) -> &[u8]
+        /// They are the bytes that the device lends.
         ensures bytes { result.now ≡ spaced_bytes_lent V.lent self.now }
+        /// There are at most 292.
         ensures few { length result.now ≤ 292 }
     {
         self.device.frame_bytes()
@@ -491,7 +535,9 @@ impl<V: Device, const GAP: usize> Spacer<V, GAP> {
 
     /// How many frames wait: those that are accepted and haven't begun.
     pub fn waiting(&self) -> usize
+        /// It is the number of frames in the queue.
         ensures queued { result ≡ length (frames_waiting self.now) }
+        /// It is the number of frames that the definition has accepted and not begun.
         ensures count { (cap : ℕ) (line : List Tick) → SpacerStandsFor V.Device cap self.now line
             → result ≡ waiting_of V.reads GAP cap line }
     {

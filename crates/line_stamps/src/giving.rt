@@ -10,8 +10,11 @@ use crate::rounding::nearest;
 /// units of `unit` nanoseconds: the nearest whole number of units, with a half rounded up.
 #[inline]
 pub fn tick_start(rate: Rate, unit: u64, tick: u64) -> u64
+    /// A unit is at least a nanosecond.
     requires some { 0 < unit }
+    /// A unit is at most a second.
     requires short { unit ≤ 1000000000 }
+    /// The tick is at most 2^28.
     requires early { tick ≤ 2 ^ 28 }
     ensures { result ≡ tick_start rate unit tick }
 {

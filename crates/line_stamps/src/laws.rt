@@ -55,10 +55,13 @@ pub fn records_are_parted()
 /// taken begins at tick `m` of the one that was given. After its last byte there may be silence, of
 /// which a capture says nothing.
 pub fn what_was_given_is_taken()
+    /// What is taken of the capture is the line that was given, from tick `m` on and apart from the
+    /// silence at its end.
     ensures same { (rate : Rate) (unit epoch m : ℕ) (rest : List Tick) (cs : List CaptureByte)
         → 0 < unit → 2 * (unit * rate.baud) < character rate
         → AreStampsGiven rate unit epoch None (bytes_from m rest) cs
         → IsTakenAs (taken_from rate unit epoch m) cs rest }
+    /// None of the bytes is early or overlaps the one before it.
     ensures free { (rate : Rate) (unit epoch m : ℕ) (rest : List Tick) (cs : List CaptureByte)
         → 0 < unit → 2 * (unit * rate.baud) < character rate
         → AreStampsGiven rate unit epoch None (bytes_from m rest) cs

@@ -96,7 +96,9 @@ impl Placer {
 
     /// Returns a placer that has taken no byte yet.
     pub fn new(timing: Timing) -> Placer
+        /// It places bytes by this timing.
         ensures timing { timing_of result ≡ timing }
+        /// It has taken no byte.
         ensures start { PlacingHasTaken result [] }
     {
         Placer {
@@ -186,11 +188,16 @@ impl Placer {
     /// early or late isn't taken.
     #[inline]
     pub fn place(&mut self, byte: CaptureByte) -> Result<u64, Unplaced>
+        /// What is returned is what the definition says of the byte, after the last one that was
+        /// taken.
         ensures answer { (cs : List CaptureByte) → PlacingHasTaken self.old cs
             → result ≡ answer_at (timing_of self.old) (last_spot (timing_of self.old) cs) byte }
+        /// If the byte is placed, the line of the capture goes on with this silence and the byte.
         ensures line { IfOk result (λ silence. (cs : List CaptureByte) → PlacingHasTaken self.old cs
             → line_of_places (timing_of self.old) (cs ++ byte ∷ [])
             ≡ line_of_places (timing_of self.old) cs ++ (silent silence ++ Byte byte.byte ∷ [])) }
+        /// A byte that is placed or overlaps is taken, and one that is early or late changes
+        /// nothing.
         ensures leaves { Leaves self.old self.new byte result }
     {
         if self.is_early(&byte) {

@@ -73,7 +73,9 @@ impl Rate {
     /// Returns the rate that a word spells, if it spells one: the baud in decimal digits without a
     /// leading zero, an `x`, and the bits of a character.
     pub fn read(word: &str) -> Option<Rate>
+        /// The word spells the rate that is returned.
         ensures some { IfSome result (λ rate. word.now ≡ rate_word rate) }
+        /// If none is returned, the word spells no rate.
         ensures none { IfNone result ((rate : Rate) → word.now ≢ rate_word rate) }
     {
         if let Some(baud) = baud_word(word, '0') {

@@ -37,9 +37,13 @@ pub struct Texts {
 impl Texts {
     /// Returns texts to which nothing has been added.
     pub fn new() -> Texts
+        /// The writer has been given no tick.
         ensures written { WriterHasWritten result.writer [] [] }
+        /// No text of ticks waits.
         ensures ticks { result.ticks.items ≡ [] }
+        /// No note waits.
         ensures notes { waiting_bytes result.notes ≡ [] }
+        /// There is room for what a few ticks complete.
         ensures room { TextHasRoom result }
     {
         Texts {
@@ -53,7 +57,9 @@ impl Texts {
     /// and for the line of a note.
     #[inline]
     pub fn has_room(&self) -> bool
+        /// If it is true, there is room.
         ensures room { result ≡ true → TextHasRoom self.now }
+        /// If there is room, it is true.
         ensures full { TextHasRoom self.now → result ≡ true }
     {
         self.ticks.has_room(MOST_OF_LINES) && self.notes.text.has_room(MOST_OF_NOTE)
@@ -63,9 +69,13 @@ impl Texts {
     /// writer takes them.
     #[inline(always)]
     pub fn add_run(&mut self, run: TickRun<'_>)
+        /// There is room for what a few ticks complete.
         requires room { TextHasRoom self.old }
+        /// The run has at most 300 ticks, or fewer than 1,000,000 that are all silent.
         requires short { IsShort (run_ticks run) }
+        /// The text of the lines that these ticks complete waits behind the rest.
         ensures adds { TextAdds (waiting_in self.old) (waiting_in self.new) (run_ticks run.entry) [] }
+        /// There is room for the line that isn't filled.
         ensures line_room { HasLineRoom self.new }
     {
         match run {
@@ -86,11 +96,16 @@ impl Texts {
     /// the text of the other line.
     #[inline(always)]
     pub fn add_noted(&mut self, note: &[u8], run: TickRun<'_>)
+        /// There is room for what a few ticks complete.
         requires room { TextHasRoom self.old }
+        /// The run has at most 300 ticks, or fewer than 1,000,000 that are all silent.
         requires short { IsShort (run_ticks run) }
+        /// The note's line has at most 640 bytes.
         requires line { length note.now ≤ 640 }
+        /// The note, and the text of the lines that these ticks complete, wait behind the rest.
         ensures adds { TextAdds (waiting_in self.old) (waiting_in self.new) (run_ticks run.entry)
             note.now }
+        /// There is room for the line that isn't filled.
         ensures line_room { HasLineRoom self.new }
     {
         self.add_run(run);
@@ -115,6 +130,7 @@ impl Texts {
 
     /// Adds the line that isn't filled to the text of the ticks. The next call must be `empty`.
     pub fn close(&mut self)
+        /// There is room for the line that isn't filled.
         requires { HasLineRoom self.old }
         ensures { ClosesText (waiting_in self.old) (waiting_in self.new) }
     {
@@ -123,8 +139,11 @@ impl Texts {
 
     /// Discards all that waits, once it has been written, so that the texts are as new.
     pub fn empty(&mut self)
+        /// The writer has been given no tick.
         ensures written { WriterHasWritten self.new.writer [] [] }
+        /// No text of ticks waits.
         ensures ticks { self.new.ticks.items ≡ [] }
+        /// No note waits.
         ensures notes { waiting_bytes self.new.notes ≡ [] }
     {
         self.writer = LineWriter::new();
@@ -148,16 +167,21 @@ impl Texts {
 
     /// Writes the last line of the ticks and all that waits, the notes first.
     pub fn finish<O: Sink, L: Sink>(self, out: &mut O, log: &mut L) -> Result<(), Failed>
+        /// Both sinks have got all of their texts.
         ensures ok { OnOk result ((made : LineAndNotes) (before : SinkTexts) (line : List Tick)
             → SendsTexts made (waiting_in self) before (sink_texts (O.held out.old) (L.held log.old))
             line
             → TextsHaveSent made before (sink_texts (O.held out.new) (L.held log.new)) line) }
+        /// After a failed write each sink has got a front of its text, the notes first.
         ensures err { OnErr result ((made : LineAndNotes) (before : SinkTexts) (line : List Tick)
             → SendsTexts made (waiting_in self) before (sink_texts (O.held out.old) (L.held log.old))
             line
             → HasSentFronts made before (sink_texts (O.held out.new) (L.held log.new)) line) }
+        /// A write fails only if a count of the sinks' faults rose. Neither count ever falls, and
+        /// if no write fails both are as they were.
         ensures cause { HaveCause (O.faults out.old) (O.faults out.new) (L.faults log.old)
             (L.faults log.new) result }
+        /// Neither sink is flushed.
         ensures flushes { NoneFlushed O.Sink L.Sink out.old out.new log.old log.new }
     {
         let Texts {

@@ -14,6 +14,7 @@ const MAX_RUN: usize = 64;
 /// Puts these bytes, 64 at most, into `sent` in place of what is there.
 #[inline]
 pub fn put_bytes(sent: &mut RunBytes, bytes: &[u8])
+    /// There are at most 64 bytes.
     requires { length bytes.now ≤ 64 }
     ensures { sent.new.items ≡ bytes.now }
 {
@@ -54,10 +55,16 @@ fn forward_alike<X: LinkBox>(line_box: &mut X, run: TickRun<'_>, sent: &mut RunB
 /// room for all of these ticks: the box takes at most `MAX_TICKS`.
 #[inline]
 pub fn take_alike<X: LinkBox>(line_box: &mut X, run: TickRun<'_>, sent: &mut RunBytes) -> usize
+    /// The box has then taken at most 2^62 ticks.
     requires { X.taken line_box.old + length (run_ticks run) ≤ MAX_TICKS }
+    /// No more ticks are taken than there are.
     ensures within { result ≤ length (run_ticks run.entry) }
+    /// The ticks that are taken are counted.
     ensures taken { X.taken line_box.new ≡ X.taken line_box.old + result }
+    /// The link of the box stays.
     ensures link { X.link_of line_box.new ≡ X.link_of line_box.old }
+    /// What is returned is what the box's walk makes of these ticks, no note falls into them, and
+    /// no number is used.
     ensures run { TakesRun X.walking X.stands line_box.old line_box.new
         (take result (run_ticks run.entry)) (answered result sent.new.items) }
 {

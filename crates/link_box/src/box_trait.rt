@@ -48,15 +48,22 @@ pub trait LinkBox: Drop {
     /// Returns the link of a box of this direction. The box's journal must serve it, and journals
     /// can, whatever the rules and the widths of the box are.
     fn link(dir: Dir) -> LinkId
+        /// The widths of the box are ones that it can be made with.
         requires { widths_fit }
+        /// It is the link of a box of this direction.
         ensures value { result ≡ link_in dir }
+        /// Its direction is 0 or 1.
         ensures right { HasDirection result };
 
     /// Returns a box that has taken no tick, for a key of any length and a direction.
     fn new(key: &[u8], dir: Dir) -> Self
+        /// The widths of the box are ones that it can be made with.
         requires { widths_fit }
+        /// It has taken 0 ticks.
         ensures taken { taken result ≡ 0 }
+        /// Its link is that of its direction.
         ensures link { link_of result ≡ link_in dir }
+        /// It begins with this key and direction, at whatever floor its journal has.
         ensures stands { (floor : ℕ) → stands result floor (setup_of key.now dir floor) [] };
 
     /// Takes the next tick, and returns the tick of the other line at the same place, with the note
@@ -70,14 +77,24 @@ pub trait LinkBox: Drop {
         journal: &mut Journal,
         disk: &mut D,
     ) -> Result<BoxStep<Self::Note>, JournalFault>
+        /// Fewer than 2^62 ticks were taken before, the journal serves the box's own link, and the
+        /// disk is as the journal knows it.
         requires { MayStep (link_of self.old) (taken self.old) journal.old (D.told disk.old) }
+        /// The link of the box stays.
         ensures link { link_of self.new ≡ link_of self.old }
+        /// A step that succeeds counts its tick.
         ensures taken { OnOk result (taken self.new ≡ taken self.old + 1) }
+        /// What is returned is the tick, and the note that falls into this step, if one does, with
+        /// which the other line and the notes of the box's walk go on.
         ensures steps { IfOk result (λ step. BoxSteps walking stands
             self.old (journal_floor journal.old) self.new (journal_floor journal.new)
             t step.tick step.note) }
+        /// It fails only in a step in which the walk notes a frame whose number isn't committed.
         ensures fails { OnErr result (FailsStep walking stands self.old journal.old journal.new t
             (D.told disk.old) (D.told disk.new)) }
+        /// The journal keeps its link, and its floor never falls. A fault comes only if the disk's
+        /// count rose. If the journal was crash-safe, it still is, and a crash at any moment of the
+        /// step leaves no floor below the one before.
         ensures journal { KeepsJournal D.SlotDisk journal.old journal.new disk.old disk.new
             result };
 
@@ -85,10 +102,16 @@ pub trait LinkBox: Drop {
     /// without using a number, and returns how many. If none is taken, the caller goes on by
     /// another call. There must be room for all of these ticks: the box takes at most `MAX_TICKS`.
     fn forward(&mut self, _run: TickRun<'_>) -> usize
+        /// The box has then taken at most 2^62 ticks.
         requires { taken self.old + length (run_ticks _run) ≤ MAX_TICKS }
+        /// No more ticks are taken than there are.
         ensures within { result ≤ length (run_ticks _run.entry) }
+        /// The ticks that are taken are counted.
         ensures taken { taken self.new ≡ taken self.old + result }
+        /// The link of the box stays.
         ensures link { link_of self.new ≡ link_of self.old }
+        /// The other line goes on with these ticks themselves, no note falls into them, and no
+        /// number is used.
         ensures run { TakesRun walking stands self.old self.new
             (take result (run_ticks _run.entry)) (take result (run_ticks _run.entry)) }
     {
@@ -101,10 +124,16 @@ pub trait LinkBox: Drop {
     /// taken, the caller goes on by another call. There must be room for all of these ticks: the
     /// box takes at most `MAX_TICKS`.
     fn pass(&mut self, _run: TickRun<'_>, sent: &mut RunBytes) -> usize
+        /// The box has then taken at most 2^62 ticks.
         requires { taken self.old + length (run_ticks _run) ≤ MAX_TICKS }
+        /// No more ticks are taken than there are.
         ensures within { result ≤ length (run_ticks _run.entry) }
+        /// The ticks that are taken are counted.
         ensures taken { taken self.new ≡ taken self.old + result }
+        /// The link of the box stays.
         ensures link { link_of self.new ≡ link_of self.old }
+        /// What is returned is what the box's walk makes of these ticks, no note falls into them,
+        /// and no number is used.
         ensures run { TakesRun walking stands self.old self.new
             (take result (run_ticks _run.entry)) (answered result sent.new.items) }
     {

@@ -20,10 +20,13 @@ pub trait Mac: Drop {
     /// The length of a tag in bytes.
     ghost TAG: { ℕ };
 
+    /// A tag has 12 or 16 bytes.
     ghost tag_size: { IsTagSize TAG };
 
+    /// Each tag has this many bytes.
     ghost tag_len: { (key text : List ℕ) → length (tag_of key text) ≡ TAG };
 
+    /// The bytes of a tag are below 256.
     ghost tag_bytes: { (key text : List ℕ) → All (λ b. b < 256) (tag_of key text) };
 
     /// The length of a tag in bytes.
@@ -44,8 +47,11 @@ pub trait Mac: Drop {
 
     /// Returns the tag of the text, and begins anew with the empty text, under the same key.
     fn finish(&mut self) -> TagBytes
+        /// It is the tag of the key and of the text so far.
         ensures tag { (key text : List ℕ) → stands self.old key text
             → result.items ≡ tag_of key text }
+        /// It has as many bytes as a tag has.
         ensures len { array_vec_len result ≡ TAG }
+        /// The value represents this key, and no text.
         ensures begun { (key text : List ℕ) → stands self.old key text → stands self.new key [] };
 }

@@ -28,6 +28,7 @@ impl<const B: usize> Trailer<B> {
 
     /// Returns a value without a trailer: nothing is still to be sent.
     pub fn none() -> Trailer<B>
+        /// A word has from 1 to 4 bytes.
         requires word { IsWordLen B }
         ensures { bytes_unsent result ≡ [] }
     {
@@ -65,7 +66,9 @@ impl<const B: usize> Trailer<B> {
     /// Returns the bytes that are still to be sent.
     #[inline]
     pub fn unsent(&self) -> &[u8]
+        /// They are the bytes that are still to be sent.
         ensures unsent { result.now ≡ bytes_unsent self.now }
+        /// There are at most 20.
         ensures within { length result.now ≤ 20 }
     {
         let bytes = self.bytes.as_slice();
@@ -75,8 +78,11 @@ impl<const B: usize> Trailer<B> {
     /// Sends the next `count` bytes, one a tick. There must be at least that many still to be sent.
     #[inline]
     pub fn send_some(&mut self, count: usize) -> LineBytes
+        /// At least `count` bytes are still to be sent.
         requires { count ≤ length (bytes_unsent self.old) }
+        /// They are the first of the bytes that were still to be sent.
         ensures sent { result.items ≡ take count (bytes_unsent self.old) }
+        /// The others are still to be sent.
         ensures unsent { bytes_unsent self.new ≡ drop count (bytes_unsent self.old) }
     {
         let unsent = self.unsent();
@@ -90,7 +96,9 @@ impl<const B: usize> Trailer<B> {
     /// Sends the next byte and returns its tick, or returns silence if all are sent.
     #[inline]
     pub fn next_tick(&mut self) -> Tick
+        /// It is the first of the bytes that were still to be sent, or silence if there was none.
         ensures tick { result ≡ first_of (bytes_unsent self.old) }
+        /// The others are still to be sent.
         ensures unsent { bytes_unsent self.new ≡ drop 1 (bytes_unsent self.old) }
     {
         match self.next() {

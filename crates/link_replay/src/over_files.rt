@@ -102,12 +102,15 @@ pub fn run_over_files<'a, R: OpensFiles + AllocGlobal, S: Source, O: Sink, L: Si
 ) -> u8
 where
     R::File: Lock + Durable,
-    // If the runtime gives no words, nothing is done.
+    /// If the system gives no words, the exit status is 13.
     ensures no_words { IsErr args → result ≡ 13 }
+    /// If the system gives no words, the input, the output and the log are as they were.
     ensures untouched { IsErr args
         → streams.new ≡ streams.old }
 
-    // What was done, and the exit status, for each command that the words may ask for.
+    /// For the command that the words ask for, the exit status is that of a run which does what the
+    /// clauses of `run` say over a key's file and a journal's file at the paths of the words; or it
+    /// is that of no memory, or 13, and the streams are as they were.
     ensures ends { IfOk args (λ given. (asked : Option Command) → Asks (words_after given) asked
         → EndsOverFiles ⟦<FileSource<'a, R> as Source>⟧ S.Source O.Sink L.Sink
         ⟦<FileSlots<'a, R> as SlotDisk>⟧ (words_after given) asked

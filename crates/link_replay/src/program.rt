@@ -195,23 +195,26 @@ pub fn run<K: Source, S: Source, O: Sink, L: Sink, D: SlotDisk>(
     streams: &mut Streams<S, O, L>,
     disk: &mut D,
 ) -> Status
-    // The status is Usage exactly if the words ask for no command.
+    /// The status is `Usage` exactly if the words ask for no command.
     ensures usage { (result ≡ Status.Usage) ↔ Asks (map string_bytes words.now) None }
 
-    // What was read, written and kept, for each command, and then the fault line.
+    /// Whatever the words ask for, what was read, written and kept is what the command's record
+    /// says for the status, and after it comes the fault line, if the status has one.
     ensures runs { (asked : Option Command) → Asks (map string_bytes words.now) asked
         → Runs L.Sink fault_line (Does K.Source S.Source O.Sink L.Sink D.SlotDisk)
         (FlushesLog L.Sink) asked
         (outside_of key.old streams.old disk.old)
         (outside_of key.new streams.new disk.new) result }
 
-    // What a crash may leave of the disk, at any moment of the run or at its end.
+    /// At any moment, a crash leaves each slot but A as before `init`. For `seal` and `check`, live
+    /// or not: if a crash before would have left the slots as read, none leaves a floor below
+    /// theirs, or an old journal was being taken over. Other commands leave the disk as it was.
     ensures any_moment { (asked : Option Command) → Asks (map string_bytes words.now) asked
         → KeepsDisk D.SlotDisk asked disk.old disk.new }
 
-    // If all that the command is given is right and nothing outside fails, the command is done, and
-    // an audit ends with the status of its verdict. Only `replay`, `space`, `audit`, `duplex` and
-    // `two_wire` and `poll` may end for lack of memory instead.
+    /// If all that the command is given is right and nothing outside fails, the command is done,
+    /// and an audit ends with the status of its verdict. Only `replay`, `space`, `audit` and
+    /// `duplex` may end for lack of memory instead.
     ensures done { (asked : Option Command) → Asks (map string_bytes words.now) asked
         → MayDo K.Source S.Source O.Sink L.Sink D.SlotDisk asked
         (outside_of key.old streams.old disk.old)
@@ -221,7 +224,9 @@ pub fn run<K: Source, S: Source, O: Sink, L: Sink, D: SlotDisk>(
         → EndsWell K.Source S.Source O.Sink L.Sink D.SlotDisk asked
         (outside_of key.old streams.old disk.old) result }
 
-    // The causes of the status: which counts of faults rose, and which flushes were made.
+    /// The status of a failed read, write or call of the disk comes only if a count of such faults
+    /// rose. Unless the line is live, the sinks are flushed on the way to `Done` or `Unclean`, and
+    /// not otherwise, except that `out` may be if the log's flush fails.
     ensures causes { (asked : Option Command) → Asks (map string_bytes words.now) asked
         → HasCauses K.Source S.Source O.Sink L.Sink D.SlotDisk asked
         (outside_of key.old streams.old disk.old)

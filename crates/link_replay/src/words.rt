@@ -442,7 +442,9 @@ fn read_six(
 /// Returns the command that the words after the program's name ask for. Each word is compared byte
 /// for byte.
 pub fn read_words(words: &[String]) -> Result<Command, Usage>
+    /// The words ask for the command that is returned.
     ensures ok { IfOk result (λ command. IsCommand (map string_bytes words.now) command) }
+    /// If `Usage` is returned, the words ask for no command.
     ensures usage { OnErr result ((command : Command)
         → IsCommand (map string_bytes words.now) command → ⊥) }
 {
@@ -486,8 +488,10 @@ pub fn read_words(words: &[String]) -> Result<Command, Usage>
 /// Returns the place, counted from 0, of the word that is the path of the key's file, or `None` if
 /// the words have no such path.
 pub fn key_word(words: &[String]) -> Option<usize>
+    /// If the words ask for a command, the place is that of the command's table.
     ensures place { (command : Command) → IsCommand (map string_bytes words.now) command
         → result ≡ key_place command }
+    /// If the words ask for no command, it is `None`.
     ensures none { Asks (map string_bytes words.now) None → result ≡ None }
 {
     match read_words(words) {
@@ -506,8 +510,10 @@ pub fn key_word(words: &[String]) -> Option<usize>
 /// Returns the place, counted from 0, of the word that is the path of the journal's file, or `None`
 /// if the words have no such path.
 pub fn journal_word(words: &[String]) -> Option<usize>
+    /// If the words ask for a command, the place is that of the command's table.
     ensures place { (command : Command) → IsCommand (map string_bytes words.now) command
         → result ≡ journal_place command }
+    /// If the words ask for no command, it is `None`.
     ensures none { Asks (map string_bytes words.now) None → result ≡ None }
 {
     match read_words(words) {

@@ -63,14 +63,25 @@ pub fn live_line<B: LineBox, K: Source, P: Port, D: SlotDisk>(
     port: &mut P,
     disk: &mut D,
 ) -> Status
+    /// The widths of the box are ones that it can be made with.
     requires widths { B.widths_fit }
+    /// The direction of the link is 0 or 1.
     requires link { HasDirection of.now.link }
+    /// The link is that of a box of this direction.
     requires of_box { of.now.link ≡ B.link_in of.now.dir }
+    /// What was read, written and flushed, in which order, and the floor of the disk at the end,
+    /// are what the record of the command says for the status.
     ensures lives { LivesBox K.Source P.Port D.SlotDisk (boxed_of B.walking B.line_of) of.now.link
         of.now.dir of.now.rest of.now.ahead key.old key.new (around port.old disk.old)
         (around port.new disk.new) result }
+    /// If a crash before the run would have left the slots as they read, with a floor, no crash at
+    /// any moment leaves a floor below it, or an old journal was being taken over.
     ensures any_moment { KeepsFloorThroughout D.SlotDisk of.now.link disk.old disk.new }
+    /// The disk's count of faults rose if the status is that of a failed journal, and is as it was
+    /// otherwise.
     ensures disk { DiskCause (D.faults disk.old) (D.faults disk.new) result }
+    /// An output's count of faults rose if the status is that of a failed write, and none did
+    /// otherwise. The input's changes only if the status is that of a failed read.
     ensures port { PortCauses P.Port port.old port.new result }
 {
     match read_key(key) {

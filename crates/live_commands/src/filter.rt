@@ -21,7 +21,12 @@ pub fn hand_on_all<B: LineBox, P: Port, D: SlotDisk>(
     port: &mut P,
     disk: &mut D,
 ) -> Result<(), Stop>
+    /// There is room for the line that isn't filled, no call on the journal has failed, and the
+    /// disk is as the journal knows it.
     requires { MayHandOn B.LinkBox B.line_of lines.old (D.told disk.old) }
+    /// Nothing waits then, and the disk is settled for the last number used; or a settle failed and
+    /// nothing more was written; or a write or a flush failed, and each output has got a front, the
+    /// notes first. Nothing is read.
     ensures { HandsOn B.LinkBox B.line_of P.Port D.SlotDisk
         (outside lines.old port.old disk.old) (outside lines.new port.new disk.new) result }
 {
@@ -69,8 +74,12 @@ pub fn take_run<B: LineBox, P: Port, D: SlotDisk>(
     disk: &mut D,
     run: TickRun<'_>,
 ) -> Result<(), Stop>
+    /// The box may count these ticks, the disk is as its journal knows it, and there is room for
+    /// what a few ticks complete.
     requires { MayTake (filtering B.LinkBox B.line_of P.Port D.SlotDisk)
         (outside lines.old port.old disk.old) (run_items run) }
+    /// The box has taken the ticks of the run, and what it makes of them is handed on or waits; or
+    /// it was stopped at one of them, as a failed settle, write or flush says.
     ensures { Gives (filtering B.LinkBox B.line_of P.Port D.SlotDisk)
         (outside lines.old port.old disk.old) (outside lines.new port.new disk.new)
         (run_items run.entry) result }

@@ -89,17 +89,29 @@ impl<B: LineBox> LiveBox<B> {
     /// Returns a live box over this journal that has taken no tick. A settle writes a number that
     /// is `ahead` above the last one used.
     pub fn new(key: &[u8], dir: Dir, journal: Journal, ahead: u64) -> LiveBox<B>
+        /// The widths of the box are ones that it can be made with.
         requires widths { B.widths_fit }
+        /// The journal serves the link of a box of this direction.
         requires link { journal_link journal ≡ B.link_in dir }
+        /// No call on the journal has failed.
         requires whole { is_broken journal ≡ false }
+        /// It has counted 0 ticks.
         ensures none { result.ticks ≡ 0 }
+        /// The box has taken 0 ticks.
         ensures taken { B.taken (box_in result.lines) ≡ 0 }
+        /// The disk is taken to hold this journal.
         ensures journal { disk_in result.lines ≡ journal }
+        /// A settle writes a number at most `ahead` above the last one used.
         ensures most { most_in result.lines ≡ ahead }
+        /// Over a disk that holds this journal, the box may take ticks.
         ensures may { (told : Option Slots) → Fits journal told
             → MayDrive B.LinkBox B.line_of result.lines told }
+        /// The disk was settled for the journal's floor.
         ensures settled { settled_in result.lines ≡ journal_floor journal }
+        /// Over a disk that holds this journal, nothing waits to be handed on.
         ensures clear { (told : Option Slots) → Fits journal told → IsClear result.lines told }
+        /// From any history on, all that the box makes of no tick has been handed on, over a disk
+        /// that holds this journal.
         ensures filters { (history : History) (link : LinkId) (told : Option Slots)
             → journal_link journal ≡ link → Fits journal told
             → Filters B.LinkBox B.line_of result.lines history told (record {
@@ -350,8 +362,11 @@ impl<B: LineBox> LiveBox<B> {
     /// the next read. Behind the line the floor of the disk is brought down to the last number
     /// used.
     pub fn drive<P: Port, D: SlotDisk>(&mut self, rest: u32, port: &mut P, disk: &mut D) -> End
+        /// The box has counted its ticks, at most 2^61, and may take more over this disk.
         requires ready { IsReady B.LinkBox B.line_of D.SlotDisk self.old disk.old }
+        /// Nothing waits to be handed on.
         requires clear { IsClear self.old.lines (D.told disk.old) }
+        /// The floor of the disk isn't above the last number for which it was settled.
         requires level { floor_in self.old.lines ≤ settled_in self.old.lines }
         ensures { Drives B.LinkBox B.line_of P.Port D.SlotDisk rest
             (live_of self.old port.old disk.old) (live_of self.new port.new disk.new) result }

@@ -19,10 +19,13 @@ use device_model::Hunted;
 /// ticks, in which no two silent ones come in a row, as the hunt does if the hunt takes all of
 /// them, and is then at rest, whatever it makes of longer silence inside a frame (`IsHunter`).
 pub fn hunting_device_reads_what_passed<R: Hunted>()
+    /// It holds for a device that hunts.
     ensures hunt { (profile : Profile) (floor : ℕ) (link : List Tick)
         → ReadsWhatPassed R.rules (hunt_line R.FIRST R.SECOND R.rules) 0 profile floor link }
+    /// It holds for a device that hunts anew after `cut` silent ticks, for a cut of at least 2.
     ensures anew { (cut : ℕ) (profile : Profile) (floor : ℕ) (link : List Tick) → 2 ≤ cut
         → ReadsWhatPassed R.rules (hunt_anew R.FIRST R.SECOND R.rules cut 0) 0 profile floor link }
+    /// It holds for each other device that is an `IsHunter`.
     ensures others { (read : ℕ → List Tick → List FrameRead)
         → IsHunter R.FIRST R.SECOND R.rules read
         → (profile : Profile) (floor : ℕ) (link : List Tick)
@@ -36,13 +39,16 @@ pub fn hunting_device_reads_what_passed<R: Hunted>()
 /// that passed is forged. The same holds for the other devices of
 /// `hunting_device_reads_what_passed`.
 pub fn hunting_device_reads_what_was_sealed<R: Hunted>()
+    /// It holds for a device that hunts.
     ensures hunt { (profile : Profile) (seal_floor check_floor : ℕ) (line link : List Tick)
         → ReadsWhatWasSealed R.rules (hunt_line R.FIRST R.SECOND R.rules) 0 profile seal_floor
         check_floor line link }
+    /// It holds for a device that hunts anew after `cut` silent ticks, for a cut of at least 2.
     ensures anew { (cut : ℕ) (profile : Profile) (seal_floor check_floor : ℕ)
         (line link : List Tick) → 2 ≤ cut
         → ReadsWhatWasSealed R.rules (hunt_anew R.FIRST R.SECOND R.rules cut 0) 0 profile seal_floor
         check_floor line link }
+    /// It holds for each other device that is an `IsHunter`.
     ensures others { (read : ℕ → List Tick → List FrameRead)
         → IsHunter R.FIRST R.SECOND R.rules read
         → (profile : Profile) (seal_floor check_floor : ℕ) (line link : List Tick)
@@ -57,15 +63,18 @@ pub fn hunting_device_reads_what_was_sealed<R: Hunted>()
 /// `hunting_device_reads_what_passed`. It is a premise that the device is at rest when each uptime
 /// of the receiver begins.
 pub fn hunting_device_reads_sealed_over_uptimes<R: Hunted>()
+    /// It holds for a device that hunts.
     ensures hunt { (profile : Profile) (seal_floor check_floor : ℕ) (seals checks : List BoxUptime)
         → BothGoOn profile R.rules seal_floor check_floor seals checks
         → ReadsOverUptimes R.rules (hunt_line R.FIRST R.SECOND R.rules) profile seal_floor
         check_floor seals checks }
+    /// It holds for a device that hunts anew after `cut` silent ticks, for a cut of at least 2.
     ensures anew { (cut : ℕ) (profile : Profile) (seal_floor check_floor : ℕ)
         (seals checks : List BoxUptime) → 2 ≤ cut
         → BothGoOn profile R.rules seal_floor check_floor seals checks
         → ReadsOverUptimes R.rules (hunt_anew R.FIRST R.SECOND R.rules cut 0) profile seal_floor
         check_floor seals checks }
+    /// It holds for each other device that is an `IsHunter`.
     ensures others { (read : ℕ → List Tick → List FrameRead)
         → IsHunter R.FIRST R.SECOND R.rules read
         → (profile : Profile) (seal_floor check_floor : ℕ) (seals checks : List BoxUptime)

@@ -39,9 +39,11 @@ pub fn device_reads_what_passed()
 /// long enough for the header, and each floor: the notes, the receiver's line and the passed frames
 /// of a longer link begin with those of the link so far.
 pub fn longer_links<R: LineRules>()
+    /// The notes and the receiver's line of a longer link begin with those of the link.
     ensures extends { (profile : Profile) → IsTimely profile R.rules
         → (floor : ℕ) (link more : List Tick)
         → Extends (checker profile R.rules) (at_floor floor) link more }
+    /// The frames that pass of a longer link begin with those of the link.
     ensures kept { (profile : Profile) → IsTimely profile R.rules
         → (floor : ℕ) (link more : List Tick)
         → Begins (passed profile R.rules floor link) (passed profile R.rules floor (link ++ more)) }
@@ -61,9 +63,12 @@ pub fn passed_frames_stand_on_the_link<R: LineRules>()
 /// number. So on any link, whatever else is on it, each burst that is a whole packet in the state
 /// in which the bursts before it leave the receiver is among the frames that pass.
 pub fn whole_packets_pass<R: LineRules>()
+    /// The verdict on a whole packet is that it passes with its number.
     ensures verdict { (profile : Profile) → HasTags profile
         → (s : CheckState) (d : Burst) (number : ℕ) → IsPacket profile R.rules s d number
         → checked profile R.rules s d ≡ passed_with number }
+    /// On any link, each burst that is a whole packet in the state in which the bursts before it
+    /// leave the receiver is among the frames that pass.
     ensures passes { (profile : Profile) → HasTags profile
         → (floor : ℕ) (link : List Tick) (front : List Burst) (d : Burst) (back : List Burst)
         (number : ℕ) → bursts link ≡ front ++ d ∷ back

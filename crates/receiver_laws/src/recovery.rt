@@ -15,12 +15,16 @@ use line_rules::LineRules;
 /// ticks: by at least the receiver's delay, and a tick for each byte that a burst of the protocol
 /// can lack.
 pub fn untouched_link_recovers<R: LineRules>()
+    /// Each packet that is due passes, if tags have their length, words have a byte or more, the
+    /// link's bytes are below 256, and the transmitter's floor is within the limit.
     ensures recovers { (profile : Profile) → HasTags profile → 1 ≤ profile.word_len
         → (most : ℕ) → LackAtMost R.rules most
         → (seal_floor check_floor : ℕ) → seal_floor ≤ profile.limit
         → (line link : List Tick) → AreTicks link → (tick : ℕ)
         → IsLeftAlone profile R.rules seal_floor check_floor line link tick
         → Recovers profile R.rules seal_floor check_floor line link tick most }
+    /// By any protocol's rules, a burst lacks at most the bytes that the longest frame has after
+    /// its header.
     ensures lacks { LackAtMost R.rules (R.rules.longest - R.rules.header_len) }
 {}
 

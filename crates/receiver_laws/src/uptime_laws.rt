@@ -26,14 +26,20 @@ use line_rules::LineRules;
 /// is an uptime with the numbers of its frames. Between two of them, runs may end before they have
 /// loaded a floor. All that the law asks of the numbers is that they rise on each side.
 pub fn uptimes_are_accounted_for<R: LineRules>()
+    /// The frames that passed in all uptimes and aren't forged are, with their numbers, a
+    /// subsequence of those that were sealed in all uptimes, and numbers rise over all uptimes on
+    /// both sides.
     ensures over { (profile : Profile) (seal_floor check_floor : ℕ) (seals checks : List BoxUptime)
         → BothGoOn profile R.rules seal_floor check_floor seals checks
         → IsAccountedFor seal_floor check_floor (sealed_over profile R.rules seals)
         (passed_over_uptimes profile R.rules checks) }
+    /// Uptimes over one disk, each of which begins on the image that the one before left, load no
+    /// floor below the last number of the one before.
     ensures on_a_disk { (frames : ℕ → List Tick → List NumberedFrame) (link : LinkId)
         (begins : Slots) (floor : ℕ) (uptimes : List BoxUptime)
         → HasNoFloorBelow link floor begins
         → ShareDisk frames link begins uptimes → GoOnFrom frames floor uptimes }
+    /// All that the law asks of the numbers is that they rise on each side.
     ensures rising { (seal_floor check_floor : ℕ) (sealed_ones passed_ones : List NumberedFrame)
         → RiseFrom seal_floor (numbers_of sealed_ones)
         → RiseFrom check_floor (numbers_of passed_ones)

@@ -7,7 +7,9 @@ ghost use Rattle.rtu_frame.specs.Rules.{rtu_rules};
 
 /// What `rtu_rules` calls a frame and a right ending is what Modbus RTU calls so.
 pub fn frames_of_the_standard()
+    /// It holds for frames.
     ensures frames { (x : List ℕ) → IsTrue (rtu_rules.is_frame x) ↔ IsFrame x }
+    /// It holds for right endings.
     ensures right_endings { (x : List ℕ)
         → IsTrue (rtu_rules.has_right_ending x) ↔ HasRightEnding x }
 {}

@@ -23,14 +23,17 @@ use yasir_io::SlotDisk;
 /// This is a law of the transmitter's definitions, for words of any length, any greatest number,
 /// and each key, direction and floor.
 pub fn longer_lines<R: LineRules, M: Mac>()
+    /// The notes and the link line of a longer line begin with those of the line.
     ensures extends { (word_len limit : ℕ) (setup : Setup) (line more : List Tick)
         → Extends (sealer (profile_of R.LineRules M.Mac word_len limit setup) R.rules)
         (at_floor setup.floor) line more }
+    /// The sealed frames of a longer line begin with those of the line.
     ensures kept { (word_len limit : ℕ) (setup : Setup) (line more : List Tick)
         → Begins
         (sealed (profile_of R.LineRules M.Mac word_len limit setup) R.rules setup.floor line)
         (sealed (profile_of R.LineRules M.Mac word_len limit setup) R.rules setup.floor
         (line ++ more)) }
+    /// The sealed frames have the numbers after the floor, one after the other.
     ensures numbered { (word_len limit : ℕ) (setup : Setup) (line : List Tick)
         → AreNumberedFrom setup.floor
         (sealed (profile_of R.LineRules M.Mac word_len limit setup) R.rules setup.floor line) }
@@ -41,6 +44,8 @@ pub fn longer_lines<R: LineRules, M: Mac>()
 /// inside it leaves no floor below the one before it. The next step goes on from the last number
 /// returned. The calls that take runs have no disk.
 pub fn steps_are_of_an_uptime<D: SlotDisk>()
+    /// If the journal was crash-safe, the call is a step of an uptime, with the number of the note
+    /// that it returns, or with none.
     ensures is_step { (old new : Journal) (before after : D)
         (result : Result (BoxStep SealNote) JournalFault)
         → SealerKeepsJournal D.SlotDisk old new before after result
@@ -49,6 +54,8 @@ pub fn steps_are_of_an_uptime<D: SlotDisk>()
           numbers = numbers_answered (λ step. numbers_sealed_in step.note) result;
           after = after;
         }) }
+    /// The last number returned, or the floor before if there is none, is the journal's floor after
+    /// the call.
     ensures goes_on { (old new : Journal) (before after : D)
         (result : Result (BoxStep SealNote) JournalFault)
         → SealerKeepsJournal D.SlotDisk old new before after result

@@ -67,9 +67,13 @@ impl<R: LineRules, M: Mac, const B: usize> Sealer<R, M, B> {
 
     /// Makes a transmitter that has taken no tick, for a key of any length and a direction.
     pub fn new(key: &[u8], dir: Dir) -> Sealer<R, M, B>
+        /// A word has from 1 to 4 bytes.
         requires word { IsWordLen B }
+        /// It has taken 0 ticks.
         ensures taken { sealer_ticks result ≡ 0 }
+        /// It has the direction that is named.
         ensures direction { sealer_direction result ≡ direction_number dir }
+        /// It begins with this key and direction, at whatever floor its journal has.
         ensures stands { (floor : ℕ) → SealerStandsAt R.LineRules M.Mac result floor
             (setup_of key.now dir floor) [] }
     {
@@ -96,22 +100,33 @@ impl<R: LineRules, M: Mac, const B: usize> Sealer<R, M, B> {
         journal: &mut Journal,
         disk: &mut D,
     ) -> Result<BoxStep<SealNote>, JournalFault>
+        /// Fewer than 2^62 ticks were taken before.
         requires room { sealer_ticks self.old < MAX_TICKS }
+        /// The journal serves the transmitter's own link.
         requires of_link { journal_link journal.old
             ≡ link_by R.LineRules M.Mac B (sealer_direction self.old) }
+        /// The disk is as the journal knows it.
         requires fits { Fits journal.old (D.told disk.old) }
 
+        /// A step that succeeds counts its tick.
         ensures taken { OnOk result (sealer_ticks self.new ≡ sealer_ticks self.old + 1) }
+        /// What is returned is the tick that the definition's link line goes on with, and the note
+        /// that falls into this step, if one does; the journal's floor is the last number sealed.
         ensures step { IfOk result (λ step. (setup : Setup) (line : List Tick)
             → SealerStandsFor R.LineRules M.Mac self.old journal.old setup line
             → SealerHasTaken R.LineRules M.Mac self.new (journal_floor journal.new) setup line t step) }
 
-        // It fails only in a step in which a burst is sealed by the definitions.
+        /// It fails only in a step in which a burst is sealed by the definitions, with the next
+        /// number.
         ensures err_seals { OnErr result ((setup : Setup) (line : List Tick)
             → SealerStandsFor R.LineRules M.Mac self.old journal.old setup line
             → SealsWith (profile_of R.LineRules M.Mac B LIMIT setup) R.rules setup.floor line t
             (journal_floor journal.old + 1)) }
+        /// A number is committed exactly with a note that a frame is sealed. A fault comes only if
+        /// the disk's count rose. If the journal was crash-safe, it still is, and a crash at any
+        /// moment of the step leaves no floor below the one before.
         ensures journal { SealerKeepsJournal D.SlotDisk journal.old journal.new disk.old disk.new result }
+        /// The direction stays.
         ensures direction { sealer_direction self.new ≡ sealer_direction self.old }
     {
         match self.cut.step(t) {
@@ -180,13 +195,19 @@ impl<R: LineRules, M: Mac, const B: usize> Sealer<R, M, B> {
     /// may be at most `MAX_TICKS` together.
     #[inline(never)]
     pub fn forward(&mut self, bytes: &[u8]) -> usize
+        /// The transmitter has then taken at most 2^62 ticks.
         requires { sealer_ticks self.old + length bytes.now ≤ MAX_TICKS }
+        /// No more bytes are taken than there are.
         ensures within { result ≤ length bytes.now }
+        /// The ticks that are taken are counted.
         ensures taken { sealer_ticks self.new ≡ sealer_ticks self.old + result }
+        /// The link line goes on with these bytes, no note falls into these ticks, and no number is
+        /// used.
         ensures run { (last : ℕ) (setup : Setup) (line : List Tick)
             → SealerStandsAt R.LineRules M.Mac self.old last setup line
             → SealerHasTakenRun R.LineRules M.Mac self.new last setup line
             (map Byte (take result bytes.now)) (map Byte (take result bytes.now)) }
+        /// The direction stays.
         ensures direction { sealer_direction self.new ≡ sealer_direction self.old }
     {
         let begun = self.begin_some(bytes);
@@ -199,13 +220,19 @@ impl<R: LineRules, M: Mac, const B: usize> Sealer<R, M, B> {
     /// meanwhile. The ticks taken before and these bytes may be at most `MAX_TICKS` together.
     #[inline]
     pub fn hold(&mut self, bytes: &[u8]) -> usize
+        /// The transmitter has then taken at most 2^62 ticks.
         requires { sealer_ticks self.old + length bytes.now ≤ MAX_TICKS }
+        /// No more bytes are taken than there are.
         ensures within { result ≤ length bytes.now }
+        /// The ticks that are taken are counted.
         ensures taken { sealer_ticks self.new ≡ sealer_ticks self.old + result }
+        /// The link line goes on with silence, no note falls into these ticks, and no number is
+        /// used.
         ensures run { (last : ℕ) (setup : Setup) (line : List Tick)
             → SealerStandsAt R.LineRules M.Mac self.old last setup line
             → SealerHasTakenRun R.LineRules M.Mac self.new last setup line
             (map Byte (take result bytes.now)) (silent result) }
+        /// The direction stays.
         ensures direction { sealer_direction self.new ≡ sealer_direction self.old }
     {
         if self.trailer.unsent().len() > 0 {
@@ -223,13 +250,19 @@ impl<R: LineRules, M: Mac, const B: usize> Sealer<R, M, B> {
     /// `MAX_TICKS` together.
     #[inline]
     pub fn pass_over(&mut self, bytes: &[u8]) -> usize
+        /// The transmitter has then taken at most 2^62 ticks.
         requires { sealer_ticks self.old + length bytes.now ≤ MAX_TICKS }
+        /// No more bytes are taken than there are.
         ensures within { result ≤ length bytes.now }
+        /// The ticks that are taken are counted.
         ensures taken { sealer_ticks self.new ≡ sealer_ticks self.old + result }
+        /// The link line goes on with silence, no note falls into these ticks, and no number is
+        /// used.
         ensures run { (last : ℕ) (setup : Setup) (line : List Tick)
             → SealerStandsAt R.LineRules M.Mac self.old last setup line
             → SealerHasTakenRun R.LineRules M.Mac self.new last setup line
             (map Byte (take result bytes.now)) (silent result) }
+        /// The direction stays.
         ensures direction { sealer_direction self.new ≡ sealer_direction self.old }
     {
         if self.trailer.unsent().len() > 0 {
@@ -244,13 +277,19 @@ impl<R: LineRules, M: Mac, const B: usize> Sealer<R, M, B> {
     /// `MAX_TICKS` together.
     #[inline]
     pub fn send_over(&mut self, bytes: &[u8]) -> LineBytes
+        /// The transmitter has then taken at most 2^62 ticks.
         requires { sealer_ticks self.old + length bytes.now ≤ MAX_TICKS }
+        /// No more bytes are taken than there are.
         ensures within { length result.items ≤ length bytes.now }
+        /// A tick is counted for each byte that is returned.
         ensures taken { sealer_ticks self.new ≡ sealer_ticks self.old + length result.items }
+        /// The link line goes on with the bytes that are returned, no note falls into these ticks,
+        /// and no number is used.
         ensures run { (last : ℕ) (setup : Setup) (line : List Tick)
             → SealerStandsAt R.LineRules M.Mac self.old last setup line
             → SealerHasTakenRun R.LineRules M.Mac self.new last setup line
             (map Byte (take (length result.items) bytes.now)) (map Byte result.items) }
+        /// The direction stays.
         ensures direction { sealer_direction self.new ≡ sealer_direction self.old }
     {
         if !self.is_early() {
@@ -266,13 +305,19 @@ impl<R: LineRules, M: Mac, const B: usize> Sealer<R, M, B> {
     /// these may be at most `MAX_TICKS` together.
     #[inline]
     pub fn keep_silent(&mut self, ticks: u32) -> u32
+        /// The transmitter has then taken at most 2^62 ticks.
         requires { sealer_ticks self.old + ticks ≤ MAX_TICKS }
+        /// At most `ticks` ticks are taken.
         ensures within { result ≤ ticks }
+        /// The ticks that are taken are counted.
         ensures taken { sealer_ticks self.new ≡ sealer_ticks self.old + result }
+        /// The link line goes on with silence, no note falls into these ticks, and no number is
+        /// used.
         ensures run { (last : ℕ) (setup : Setup) (line : List Tick)
             → SealerStandsAt R.LineRules M.Mac self.old last setup line
             → SealerHasTakenRun R.LineRules M.Mac self.new last setup line
             (silent result) (silent result) }
+        /// The direction stays.
         ensures direction { sealer_direction self.new ≡ sealer_direction self.old }
     {
         if self.trailer.unsent().len() > 0 {
@@ -286,13 +331,19 @@ impl<R: LineRules, M: Mac, const B: usize> Sealer<R, M, B> {
     /// taken. The ticks taken before and these may be at most `MAX_TICKS` together.
     #[inline]
     pub fn send_some(&mut self, ticks: u32) -> LineBytes
+        /// The transmitter has then taken at most 2^62 ticks.
         requires { sealer_ticks self.old + ticks ≤ MAX_TICKS }
+        /// At most `ticks` ticks are taken.
         ensures within { length result.items ≤ ticks }
+        /// A tick is counted for each byte that is returned.
         ensures taken { sealer_ticks self.new ≡ sealer_ticks self.old + length result.items }
+        /// The link line goes on with the bytes that are returned, no note falls into these ticks,
+        /// and no number is used.
         ensures run { (last : ℕ) (setup : Setup) (line : List Tick)
             → SealerStandsAt R.LineRules M.Mac self.old last setup line
             → SealerHasTakenRun R.LineRules M.Mac self.new last setup line
             (silent (length result.items)) (map Byte result.items) }
+        /// The direction stays.
         ensures direction { sealer_direction self.new ≡ sealer_direction self.old }
     {
         let most = ticks.min(self.trailer.unsent().len() as u32);
@@ -327,13 +378,19 @@ impl<R: LineRules, M: Mac, const B: usize> Sealer<R, M, B> {
     /// these bytes may be at most `MAX_TICKS` together.
     #[inline]
     pub fn pass_bytes(&mut self, bytes: &[u8], sent: &mut RunBytes) -> usize
+        /// The transmitter has then taken at most 2^62 ticks.
         requires { sealer_ticks self.old + length bytes.now ≤ MAX_TICKS }
+        /// No more bytes are taken than there are.
         ensures within { result ≤ length bytes.now }
+        /// The ticks that are taken are counted.
         ensures taken { sealer_ticks self.new ≡ sealer_ticks self.old + result }
+        /// What leaves is what the definition's link line goes on with, no note falls into these
+        /// ticks, and no number is used.
         ensures run { (last : ℕ) (setup : Setup) (line : List Tick)
             → SealerStandsAt R.LineRules M.Mac self.old last setup line
             → SealerHasTakenRun R.LineRules M.Mac self.new last setup line
             (map Byte (take result bytes.now)) (answered result sent.new.items) }
+        /// The direction stays.
         ensures direction { sealer_direction self.new ≡ sealer_direction self.old }
     {
         let held = self.hold_some(bytes);
@@ -350,13 +407,19 @@ impl<R: LineRules, M: Mac, const B: usize> Sealer<R, M, B> {
     /// with another call. The ticks taken before and these may be at most `MAX_TICKS` together.
     #[inline]
     pub fn pass_silence(&mut self, ticks: u32, sent: &mut RunBytes) -> u32
+        /// The transmitter has then taken at most 2^62 ticks.
         requires { sealer_ticks self.old + ticks ≤ MAX_TICKS }
+        /// At most `ticks` ticks are taken.
         ensures within { result ≤ ticks }
+        /// The ticks that are taken are counted.
         ensures taken { sealer_ticks self.new ≡ sealer_ticks self.old + result }
+        /// What leaves is what the definition's link line goes on with, no note falls into these
+        /// ticks, and no number is used.
         ensures run { (last : ℕ) (setup : Setup) (line : List Tick)
             → SealerStandsAt R.LineRules M.Mac self.old last setup line
             → SealerHasTakenRun R.LineRules M.Mac self.new last setup line
             (silent result) (answered result sent.new.items) }
+        /// The direction stays.
         ensures direction { sealer_direction self.new ≡ sealer_direction self.old }
     {
         if self.trailer.unsent().len() == 0 {

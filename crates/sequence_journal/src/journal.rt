@@ -77,29 +77,42 @@ impl Journal {
     /// Makes a new journal of a link, at floor 0 and in slot A, if no slot holds a number and no
     /// old slot does.
     pub fn init<D: SlotDisk>(disk: &mut D, link: &LinkId) -> Result<Journal, InitError>
+        /// The direction of the link is 0 or 1.
         requires link { HasDirection link.now }
 
+        /// If it succeeds, the disk is as the journal knows it.
         ensures fits { IfOk result (λ journal. Fits journal (D.told disk.new)) }
+        /// The journal serves this link.
         ensures link_is { IfOk result (λ journal. journal_link journal ≡ link.now) }
+        /// Its floor is 0.
         ensures floor { IfOk result (λ journal. journal_floor journal ≡ 0) }
+        /// It succeeds only if no slot, old or new, held a number for any link.
         ensures none { OnOk result (IfSome (D.told disk.old) (λ slots. greatest slots ≡ None)) }
+        /// If it succeeds, slot A holds number 0 for the link, and all others are as they were.
         ensures set { OnOk result (D.told disk.new
             ≡ told_with (D.told disk.old) A (slot_bytes 0 link.now)) }
+        /// If it succeeds, a crash leaves just the slots as they read.
         ensures synced { OnOk result (OneImage (D.told disk.new) (D.may_leave disk.new)) }
+        /// If it succeeds, each image has floor 0 for the link.
         ensures image { OnOk result ((c : Slots) → D.may_leave disk.new c
             → floor_of link.now c ≡ Some 0) }
 
+        /// If it fails, a call failed, and slot A may have been set; or some slot holds a number,
+        /// whose greatest is told, and nothing was written.
         ensures refused { IfErr result (RefusesInit link.now (D.told disk.old) (D.told disk.new)
             (D.faults disk.old) (D.faults disk.new)) }
+        /// If some slot holds a number, a crash leaves exactly what it might have left before.
         ensures untouched { (floor : ℕ) → result ≡ Err (InitError.Stands floor)
             → NoMore (D.may_leave disk.old) (D.may_leave disk.new)
             × NoMore (D.may_leave disk.new) (D.may_leave disk.old) }
 
-        // A crash at any moment leaves all slots but A as they were.
+        /// A crash at any moment leaves all slots but A as they were.
         ensures any_moment { LeavesOnly D.moment D.left_since disk.old disk.new
             (IsBut A (D.may_leave disk.old)) }
 
+        /// The disk's count of faults never falls.
         ensures never_falls { D.faults disk.old ≤ D.faults disk.new }
+        /// If it succeeds, the count of faults is as it was.
         ensures same { OnOk result (D.faults disk.new ≡ D.faults disk.old) }
     {
         let Ok(slots) = read_slots(disk) else {
@@ -116,10 +129,15 @@ impl Journal {
 
     /// Returns a journal at the same floor that goes on in memory, over a disk that tells nothing.
     pub fn in_memory(&self) -> Journal
+        /// No call on the journal has failed.
         requires whole { is_broken self.now ≡ false }
+        /// It has the same floor.
         ensures floor { journal_floor result ≡ journal_floor self.now }
+        /// It serves the same link.
         ensures link { journal_link result ≡ journal_link self.now }
+        /// It fits a disk that tells nothing.
         ensures fits { Fits result None }
+        /// It is the same journal.
         ensures same { result ≡ self.now }
     {
         Journal {
@@ -161,31 +179,44 @@ impl Journal {
     /// taken over: their greatest number is written into slot A and synced. Otherwise nothing is
     /// written.
     pub fn load<D: SlotDisk>(disk: &mut D, link: &LinkId) -> Result<Journal, LoadError>
+        /// The direction of the link is 0 or 1.
         requires link { HasDirection link.now }
 
+        /// If it succeeds, the disk is as the journal knows it.
         ensures fits { IfOk result (λ journal. Fits journal (D.told disk.new)) }
+        /// The journal serves the link, and its floor is that of the slots as they were read. If
+        /// neither slot A nor slot B held a number for the link, slot A now holds the floor;
+        /// otherwise nothing was written.
         ensures loaded { IfOk result (IsLoaded link.now (D.told disk.old) (D.told disk.new)
             (D.may_leave disk.old) (D.may_leave disk.new)) }
+        /// If a crash before would have left the slots as they read, the journal is crash-safe.
         ensures crash_safe { IfOk result (λ journal.
             OneImage (D.told disk.old) (D.may_leave disk.old)
             → IsCrashSafe journal (D.told disk.new) (D.may_leave disk.new)) }
 
-        // After a crash at any moment of a load, a journal that held a number for its link is
-        // loaded at no lower floor. So is one that was being taken over, unless it is seen as
-        // another link's.
+        /// A crash at any moment leaves what it might have left before, or, if an old journal is
+        /// being taken over, something else in slot A.
         ensures any_moment { LeavesOnly D.moment D.left_since disk.old disk.new
             (MayLeaveLoading (D.told disk.old) (D.may_leave disk.old)) }
+        /// If a crash before would have left the slots as they read, a journal with a floor for its
+        /// link is loaded at no lower one after a crash at any moment; one that was being taken
+        /// over may be seen as another link's.
         ensures crash { (slots : Slots) (floor : ℕ) → D.told disk.old ≡ Some slots
             → OneImage (D.told disk.old) (D.may_leave disk.old)
             → floor_of link.now slots ≡ Some floor
             → LeavesOnly D.moment D.left_since disk.old disk.new
             (KeepsLoadable link.now slots floor) }
 
+        /// If it fails, a call failed; or no slot holds a number; or none holds one for this link
+        /// but one does for another.
         ensures refused { IfErr result (RefusesLoad link.now (D.told disk.old) (D.told disk.new)
             (D.faults disk.old) (D.faults disk.new)) }
+        /// If it fails and no call did, a crash leaves exactly what it might have left before.
         ensures untouched { IfErr result (IsUntouched (D.may_leave disk.old)
             (D.may_leave disk.new)) }
+        /// The disk's count of faults never falls.
         ensures never_falls { D.faults disk.old ≤ D.faults disk.new }
+        /// If it succeeds, the count of faults is as it was.
         ensures same { OnOk result (D.faults disk.new ≡ D.faults disk.old) }
     {
         let Ok(slots) = read_slots(disk) else {
@@ -214,7 +245,9 @@ impl Journal {
 
     /// Returns the floor: the last number that was committed.
     pub fn floor(&self) -> u64
+        /// It is the journal's floor.
         ensures value { result ≡ journal_floor self.now }
+        /// It is at most 2^48 - 1.
         ensures within { result ≤ LIMIT }
     {
         self.floor
@@ -229,36 +262,50 @@ impl Journal {
 
     /// Makes `n` the floor: writes it into the slot that doesn't keep the floor, and then syncs.
     pub fn commit<D: SlotDisk>(&mut self, disk: &mut D, n: u64) -> Result<(), JournalFault>
+        /// The disk is as the journal knows it.
         requires fits { Fits self.old (D.told disk.old) }
+        /// The number is above the floor.
         requires rises { journal_floor self.old < n }
+        /// The number is at most 2^48 - 1.
         requires within { n ≤ LIMIT }
 
+        /// The link stays.
         ensures link { journal_link self.new ≡ journal_link self.old }
+        /// If it succeeds, the disk is as the journal knows it.
         ensures fits { OnOk result (Fits self.new (D.told disk.new)) }
+        /// If it succeeds, the number is the floor, the slot that didn't keep the floor holds it,
+        /// all others are as they were, and a crash leaves just these slots.
         ensures committed { OnOk result (HasCommitted self.old self.new
             (D.told disk.old) (D.told disk.new) (D.may_leave disk.new) n) }
+        /// If it succeeds, each image has the number as its floor.
         ensures image { OnOk result ((c : Slots) → D.may_leave disk.new c
             → floor_of (journal_link self.old) c ≡ Some n) }
 
-        // After a fault the journal must not be used again.
+        /// If it fails, the journal is broken and keeps its floor, and the slot that didn't keep it
+        /// may have been set to the number.
         ensures failed { OnErr result
             (HasFailed self.old self.new (D.told disk.old) (D.told disk.new) n) }
 
-        // A crash at any moment of the call leaves no floor below the one before the call, if a
-        // crash before the call left none.
+        /// If each image was as the slots read, but for the slot that doesn't keep the floor, each
+        /// still is.
         ensures kept { IsKept self.old (D.told disk.old) (D.may_leave disk.old)
             → IsKept self.new (D.told disk.new) (D.may_leave disk.new) }
+        /// If each image was so, a crash at any moment of the call leaves no floor below the one
+        /// before it.
         ensures any_moment { IsKept self.old (D.told disk.old) (D.may_leave disk.old)
             → LeavesOnly D.moment D.left_since disk.old disk.new (HasFloorFrom self.old) }
+        /// If the journal was crash-safe, it still is.
         ensures crash_safe { IsCrashSafe self.old (D.told disk.old) (D.may_leave disk.old)
             → IsCrashSafe self.new (D.told disk.new) (D.may_leave disk.new) }
-        // The call is a step of an uptime, with the number `n`, or with none if it fails.
+        /// If each image was so, the call is a step of an uptime, with the number `n`, or with none
+        /// if it fails.
         ensures is_step { IsKept self.old (D.told disk.old) (D.may_leave disk.old)
             → IsStepOf D.SlotDisk self.old disk.old (record {
               numbers = numbers_answered (λ done. n ∷ []) result;
               after = disk.new;
             }) }
 
+        /// The disk's count of faults rose if a call failed, and is as it was otherwise.
         ensures cause { HasCause (D.faults disk.old) (D.faults disk.new) result }
     {
         let slot = self.kept.other();

@@ -29,13 +29,17 @@ pub fn numbers_rise()
 /// those returned by then. A time in which nothing happens is a step that returns no number. An
 /// uptime that ends while its journal is being loaded is an idle one.
 pub fn uptime_ends_at_any_moment<D: SlotDisk>()
+    /// An uptime that ends inside a step is one with the numbers that were returned by then.
     ensures inside { (link : LinkId) (begins : Slots) (floor : ℕ) (loaded : D)
         (done : List (Step D)) (image : Slots)
         → floor_of link begins ≡ Some floor → EndsInside D.SlotDisk link floor loaded done image
         → IsUptime link begins (answered_in done) image }
+    /// A time in which nothing happens is a step that returns no number, if no image has a floor
+    /// below the one before.
     ensures between { (link : LinkId) (floor : ℕ) (disk : D)
         → ((c : Slots) → D.may_leave disk c → HasFloorAtLeast link floor c)
         → IsStep D.SlotDisk link floor disk (record { numbers = []; after = disk }) }
+    /// An uptime that ends while its journal is being loaded is an idle one.
     ensures loading { (link : LinkId) (begins : Slots) (floor : ℕ) (image : Slots)
         → floor_of link begins ≡ Some floor → KeepsLoadable link begins floor image
         → IsIdle link begins [] image }
@@ -44,7 +48,9 @@ pub fn uptime_ends_at_any_moment<D: SlotDisk>()
 /// Idle uptimes, one after the other, count as one idle uptime, and no uptime at all counts as one
 /// too.
 pub fn idle_uptimes_are_one()
+    /// No uptime at all counts as an idle one.
     ensures none { (link : LinkId) (slots : Slots) → IsIdle link slots [] slots }
+    /// Two idle uptimes, one after the other, count as one.
     ensures joined { (link : LinkId) (begins between image : Slots)
         → IsIdle link begins [] between → IsIdle link between [] image
         → IsIdle link begins [] image }
@@ -62,13 +68,16 @@ pub fn floor_is_refused_for_a_fault_alone()
 /// may also be left by the end of a run whose disk fails from that moment on. What is proved of the
 /// images at the end of each run, with any disk, therefore holds of a crash at any moment inside.
 pub fn failed_calls_keep_images<D: SlotDisk>()
+    /// A write takes no image of whole slots away.
     ensures write { (before after : D) (slot : Slot) (image : Slots)
         → Reaches (Torn slot) (D.may_leave before) (D.may_leave after)
         → length (slot_in image slot) ≡ SLOT_LEN → D.may_leave before image
         → D.may_leave after image }
+    /// A sync that fails takes no image away.
     ensures sync { (before after : D) (image : Slots)
         → NoMore (D.may_leave after) (D.may_leave before) → D.may_leave before image
         → D.may_leave after image }
+    /// Failed calls in a row take no image of whole slots away.
     ensures in_a_row { (before : D) (calls : List D) (image : Slots)
         → HaveFailedCalls D.SlotDisk before calls → AreWhole image → D.may_leave before image
         → D.may_leave (last_disk before calls) image }

@@ -96,9 +96,13 @@ impl BurstBytes {
     /// The bytes that are kept.
     #[inline]
     pub fn bytes(&self) -> &[u8]
+        /// They are the first bytes of the last burst of the line that was taken, at most as many
+        /// as the longest frame has.
         ensures burst { (line : List Tick) → BurstFor self.now line
             → result.now ≡ take longest_frame (burst_bytes_so_far line) }
+        /// They are the bytes that the value keeps.
         ensures kept { result.now ≡ self.now.bytes.items }
+        /// There are at most as many as the longest frame has.
         ensures short { length result.now ≤ longest_frame }
     {
         self.bytes.as_slice()

@@ -84,15 +84,26 @@ pub fn replay_recordings<
     L: Sink,
     D: SlotDisk,
 >(alloc: Global, dir: Dir, device_rest: u32, ends: Ends<K, I, O, L, D>) -> Status
+    /// The widths of the transmitter are ones that it can be made with.
     requires sealer { S.widths_fit }
+    /// The widths of the receiver are ones that it can be made with.
     requires checker { C.widths_fit }
+    /// The frames that the transmitter's definition gives for a line are numbered one after the
+    /// other, from its floor on.
     requires in_turn { (setup : Setup) (line : List Tick)
         → AreNumberedFrom setup.floor ((S.numbering setup).frames line) }
+    /// If the key is right and the input ends well, `out` gets the four groups of lines of these
+    /// two recordings, or a front of them if a write fails; before that, and for want of memory, it
+    /// gets nothing. If the key isn't right or can't be read, input and sinks are as they were.
     ensures lists { PrintsKeyed K.Source I.Source O.Sink
         (listing_with S.FrameBox C.FrameBox V.Device dir) device_rest
         (outside_before ends.entry) (outside_after ends.exit) result }
+    /// The log holds what it held.
     ensures log { L.held (outside_after ends.exit).log ≡ L.held ends.entry.log.now }
+    /// The disk is as it was.
     ensures disk { (outside_after ends.exit).disk ≡ ends.entry.disk.now }
+    /// The status of a failed read or write comes only if a count of such faults rose, and the
+    /// sinks are flushed as the status says.
     ensures causes { HasStreamCauses K.Source I.Source O.Sink L.Sink (outside_before ends.entry)
         (outside_after ends.exit) result }
 {

@@ -63,9 +63,15 @@ pub fn audit_input<I: Source>(
     session: &Session<'_>,
     input: &mut I,
 ) -> Result<Verdict, End>
+    /// The protocol and the profile are among those that there are, and each floor is 0 or the
+    /// number of a frame.
     requires { IsSession session.now }
+    /// If the input ends whole, with two marks, the verdict is that of the definition on its three
+    /// recordings. Otherwise it is said how the input ended and what was taken of it; it is stopped
+    /// only for want of memory.
     ensures audits { AuditsInput (verdict_of_session session.now) (I.left input.old)
         (I.left input.new) result }
+    /// It ends with a failed read only if the input's count of faults rose.
     ensures read { IsReadCause (I.faults input.old) (I.faults input.new)
         (is_read_answer result) }
 {

@@ -72,8 +72,13 @@ pub fn audit(
     link: &[Tick],
     received: &[Tick],
 ) -> Result<Verdict, NoMemory>
+    /// The protocol and the profile are among those that there are, and each floor is 0 or the
+    /// number of a frame.
     requires session { IsSession session.now }
+    /// Each recording has at most 16,777,216 ticks.
     requires recordings { AreRecordings device.now link.now received.now }
+    /// If there was memory, the verdict is the one that the definition gives for the session and
+    /// the three recordings, whoever made them.
     ensures { IfOk result (λ verdict.
         verdict ≡ verdict_of_session session.now device.now link.now received.now) }
 {

@@ -42,9 +42,12 @@ impl<K: Copy + Drop> FrameList<K> {
     /// Adds a frame at the end. It has at most as many bytes as the longest frame.
     #[inline(never)]
     pub fn push(&mut self, head: K, bytes: &[u8]) -> Result<(), NoMemory>
+        /// The frame has at most as many bytes as the longest frame.
         requires { length bytes.now ≤ longest_frame }
+        /// If there was memory, the list holds its frames as before, and then this one.
         ensures kept { OnOk result ((frames : List (KeptFrames K)) → Holds self.old frames
             → Holds self.new (frames ++ record { head = head; frame = bytes.now } ∷ [])) }
+        /// If there was memory, the list has one frame more.
         ensures grows { OnOk result (list_len self.new ≡ list_len self.old + 1) }
     {
         let Ok(()) = self.bytes.extend_from_slice(bytes) else {
@@ -62,7 +65,9 @@ impl<K: Copy + Drop> FrameList<K> {
 
     /// How many frames there are.
     pub fn len(&self) -> usize
+        /// It is the length of the list.
         ensures value { result ≡ list_len self.now }
+        /// It is the number of frames that the list holds.
         ensures frames { (frames : List (KeptFrames K)) → Holds self.now frames → result ≡ length frames }
     {
         self.entries.as_slice().len()
@@ -70,6 +75,7 @@ impl<K: Copy + Drop> FrameList<K> {
 
     /// The head of the frame at `index`, counted from 0.
     pub fn head(&self, index: usize) -> K
+        /// There is a frame at this place.
         requires { index < list_len self.now }
         ensures { (frames : List (KeptFrames K)) (other : KeptFrames K) → Holds self.now frames
             → result ≡ (slice_index_or frames index other).head }
@@ -79,10 +85,14 @@ impl<K: Copy + Drop> FrameList<K> {
 
     /// The bytes of the frame at `index`, counted from 0.
     pub fn bytes(&self, index: usize) -> &[u8]
+        /// There is a frame at this place.
         requires within { index < list_len self.now }
+        /// No byte of a frame of the list is missing.
         requires whole { ListIsWhole self.now }
+        /// They are the bytes of the frame at this place.
         ensures frame { (frames : List (KeptFrames K)) (other : KeptFrames K) → Holds self.now frames
             → result.now ≡ (slice_index_or frames index other).frame }
+        /// There are at most as many as the longest frame has.
         ensures short { length result.now ≤ longest_frame }
     {
         let Bounds { start, end } = self.bounds(index);

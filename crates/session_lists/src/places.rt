@@ -12,7 +12,10 @@ use crate::frame_list::FrameList;
 /// one after the other from `floor + 1` on. False if there is no frame at that place. No other
 /// frame is looked at.
 pub fn is_at_its_number(frames: &FrameList<Numbered>, floor: u64, number: u64, bytes: &[u8]) -> bool
+    /// No byte of a frame of the list is missing.
     requires { ListIsWhole frames.now }
+    /// It is whether the frame at the place of this number, among frames numbered from `floor + 1`
+    /// on, has these bytes.
     ensures { (listed : List NumberedFrame) (f : NumberedFrame)
         → Holds frames.now (kept_frames listed) → f.number ≡ number → f.frame ≡ bytes.now
         → result ≡ stands_at_its_number floor listed f }

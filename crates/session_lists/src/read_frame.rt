@@ -29,6 +29,7 @@ impl Model for ReadFrame {
 impl ReadFrame {
     /// The frame that begins in this tick and has these bytes.
     pub fn new(start: u64, bytes: &[u8]) -> ReadFrame
+        /// The frame has at most as many bytes as the longest frame.
         requires { length bytes.now ≤ longest_frame }
         ensures { result ≡ record { start = start; frame = bytes.now } }
     {
@@ -58,7 +59,9 @@ impl ReadFrame {
 
     /// Its bytes.
     pub fn bytes(&self) -> &[u8]
+        /// They are the bytes of the frame.
         ensures bytes { result.now ≡ self.now.frame }
+        /// There are at most as many as the longest frame has.
         ensures short { length result.now ≤ longest_frame }
     {
         &self.bytes[..self.len]

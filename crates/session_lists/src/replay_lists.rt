@@ -35,18 +35,18 @@ pub fn step_into<B: FrameBox>(
     frames: &mut FrameList<Numbered>,
     t: Tick,
 ) -> Result<Tick, NoMemory>
-    /// The box has taken fewer than `MAX_TICKS` ticks.
+    /// Fewer than 2^62 ticks were taken before.
     requires room { B.taken line_box.old < MAX_TICKS }
-    /// It may take a tick.
+    /// The box may go on.
     requires able { B.able line_box.old }
-    /// It may then take more.
+    /// The box may go on.
     ensures able { B.able line_box.new }
-    /// It has taken one more.
+    /// One more tick is taken.
     ensures taken { B.taken line_box.new ≡ B.taken line_box.old + 1 }
-    /// At most one frame more is kept.
+    /// If there was memory, the list has at most one frame more.
     ensures few { OnOk result (list_len frames.new ≤ list_len frames.old + 1) }
-    /// If the list held the frames of a line that the box had taken, it holds those of this line with
-    /// the tick behind it, and the tick that is returned comes behind the other line.
+    /// If there was memory, the tick that is returned is what the other line goes on with, and the
+    /// list holds the frames of the line with this tick.
     ensures ok { IfOk result (λ tick. (setup : Setup) (line : List Tick)
         → KeepsFrames B.FrameBox line_box.old frames.old setup line
         → StepsInto B.FrameBox line_box.new frames.new setup line t tick) }
@@ -93,14 +93,13 @@ pub fn hear_into<V: Device>(
     frames: &mut FrameList<u64>,
     t: Tick,
 ) -> Result<(), NoMemory>
-    /// The device has taken fewer than `MAX_TICKS` ticks.
+    /// Fewer than 2^62 ticks were taken before.
     requires { V.taken device.old < MAX_TICKS }
-    /// It has taken one more.
+    /// One more tick is taken.
     ensures taken { V.taken device.new ≡ V.taken device.old + 1 }
-    /// At most one frame more is kept.
+    /// If there was memory, the list has at most one frame more.
     ensures few { OnOk result (list_len frames.new ≤ list_len frames.old + 1) }
-    /// If the list held what the device had read of a line, it holds what it reads of this line with
-    /// the tick behind it.
+    /// If there was memory, the list holds the frames that are read of the line with this tick.
     ensures ok { OnOk result ((line : List Tick) → Listens V.Device device.old frames.old line
         → Listens V.Device device.new frames.new (line ++ t ∷ [])) }
 {
@@ -133,10 +132,14 @@ impl<S: FrameBox, C: FrameBox, V: Device + Drop> ReplayLists<S, C, V> {
     /// Lists of no frames, with boxes that have taken no tick, for a key of any length and a
     /// direction.
     pub fn new(alloc: Global, key: &[u8], dir: Dir) -> ReplayLists<S, C, V>
+        /// The widths of the transmitter are ones that it can be made with.
         requires sealer { S.widths_fit }
+        /// The widths of the receiver are ones that it can be made with.
         requires checker { C.widths_fit }
+        /// The lists hold the frames of no ticks, of boxes with this key and direction at floor 0.
         ensures listed { HasListed S.FrameBox C.FrameBox V.Device result
             (setup_of key.now dir 0) [] [] }
+        /// The lists have taken no item.
         ensures may_list { MayList S.FrameBox C.FrameBox V.Device result }
     {
         ReplayLists {
@@ -314,8 +317,12 @@ impl<S: FrameBox, C: FrameBox, V: Device + Drop> ReplayLists<S, C, V> {
 
     /// Gives the transmitter `ticks` silent ticks after its recording, the one before the mark.
     pub fn rest(&mut self, ticks: u32) -> Result<(), NoMemory>
+        /// The transmitter has then taken at most 2^62 ticks.
         requires room { S.taken self.old.sealer + ticks ≤ MAX_TICKS }
+        /// The transmitter may go on.
         requires able { S.able self.old.sealer }
+        /// If there was memory, the lists hold what is sealed of the device's line with this
+        /// silence after it.
         ensures { OnOk result ((setup : Setup) (device link : List Tick)
             → HasListed S.FrameBox C.FrameBox V.Device self.old setup device link
             → HasListed S.FrameBox C.FrameBox V.Device self.new setup (device ++ silent ticks)

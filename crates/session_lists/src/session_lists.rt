@@ -84,16 +84,24 @@ impl<S: FrameBox, C: FrameBox, V: Device + Drop> SessionLists<S, C, V> {
         floors: Floors,
         timing: Timing,
     ) -> SessionLists<S, C, V>
+        /// The widths of the transmitter are ones that it can be made with.
         requires sealer { S.widths_fit }
+        /// The widths of the receiver are ones that it can be made with.
         requires checker { C.widths_fit }
+        /// The transmitter's floor is at most 2^48 - 1.
         requires sent { floors.sent ≤ LIMIT }
+        /// The receiver's floor is at most 2^48 - 1.
         requires got { floors.got ≤ LIMIT }
+        /// The silences after the recordings are at most 1,000 ticks together.
         requires short { all_rests timing ≤ 1000 }
+        /// The lists hold the frames of no ticks, of boxes with this key and direction at these
+        /// floors.
         ensures has { HasSession S.FrameBox C.FrameBox V.Device result (record {
           sent = setup_of key.now dir floors.sent;
           got = setup_of key.now dir floors.got;
           timing = timing;
         }) [] [] [] }
+        /// The lists have taken no item.
         ensures may_list { MayListSession S.FrameBox C.FrameBox V.Device result }
     {
         SessionLists {
@@ -139,8 +147,11 @@ impl<S: FrameBox, C: FrameBox, V: Device + Drop> SessionLists<S, C, V> {
 
     /// The frames that were sealed.
     pub fn sealed(&self) -> &FrameList<Numbered>
+        /// As long as the lists may be given ticks, this list has at most as many frames as ticks
+        /// were taken.
         ensures few { IsOpenList S.FrameBox C.FrameBox V.Device self.now
             → list_len result.now ≤ session_taken S.FrameBox C.FrameBox V.Device self.now }
+        /// They are the frames that are sealed of the first recording.
         ensures frames { (setups : SetupsOfLists) (device link received : List Tick)
             → HasSession S.FrameBox C.FrameBox V.Device self.now setups device link received
             → Holds result.now (kept_frames ((S.numbering setups.sent).frames device)) }
@@ -150,8 +161,11 @@ impl<S: FrameBox, C: FrameBox, V: Device + Drop> SessionLists<S, C, V> {
 
     /// The frames that have passed.
     pub fn passed(&self) -> &FrameList<Numbered>
+        /// As long as the lists may be given ticks, this list has at most as many frames as ticks
+        /// were taken.
         ensures few { IsOpenList S.FrameBox C.FrameBox V.Device self.now
             → list_len result.now ≤ session_taken S.FrameBox C.FrameBox V.Device self.now }
+        /// They are the frames that pass of the second recording.
         ensures frames { (setups : SetupsOfLists) (device link received : List Tick)
             → HasSession S.FrameBox C.FrameBox V.Device self.now setups device link received
             → Holds result.now (kept_frames ((C.numbering setups.got).frames link)) }
@@ -161,8 +175,10 @@ impl<S: FrameBox, C: FrameBox, V: Device + Drop> SessionLists<S, C, V> {
 
     /// How many frames were read.
     pub fn read_count(&self) -> u64
+        /// As long as the lists may be given ticks, it is at most as many as ticks were taken.
         ensures few { IsOpenList S.FrameBox C.FrameBox V.Device self.now
             → result ≤ session_taken S.FrameBox C.FrameBox V.Device self.now }
+        /// It is the number of frames that the device reads of the third recording.
         ensures count { (setups : SetupsOfLists) (device link received : List Tick)
             → HasSession S.FrameBox C.FrameBox V.Device self.now setups device link received
             → result ≡ length (V.reads received) }
@@ -173,6 +189,8 @@ impl<S: FrameBox, C: FrameBox, V: Device + Drop> SessionLists<S, C, V> {
     /// Returns the first difference between the frames that have passed, each as late as the
     /// receiver is, and the frames that were read. `None` if there is no difference.
     pub fn difference(&self) -> Option<Difference>
+        /// The lists are those of some recordings, and each frame that passed starts at a tick
+        /// below 2^64, as late as the receiver is.
         requires { AreReadInTime S.FrameBox C.FrameBox V.Device self.now }
         ensures { (setups : SetupsOfLists) (device link received : List Tick)
             → HasSession S.FrameBox C.FrameBox V.Device self.now setups device link received

@@ -16,9 +16,14 @@ pub fn list_session<S: FrameBox, C: FrameBox, V: Device + Drop, I: Source>(
     lists: &mut SessionLists<S, C, V>,
     input: &mut I,
 ) -> End
+    /// The lists have taken no item.
     requires fresh { MayListSession S.FrameBox C.FrameBox V.Device lists.old }
+    /// If the input ends whole, with two marks, the lists are those of its three recordings, each
+    /// with its silence. Otherwise it is said how it ended and what was taken of it; it is stopped
+    /// only for want of memory.
     ensures listed { ListsSession S.FrameBox C.FrameBox V.Device lists.old lists.new
         (I.left input.old) (I.left input.new) result }
+    /// It ends with a failed read only if the input's count of faults rose.
     ensures read { IsReadCause (I.faults input.old) (I.faults input.new) (is_read_fault result) }
 {
     match drive_with_room(2, input, lists) {
@@ -38,8 +43,11 @@ pub fn list_lines<S: FrameBox, C: FrameBox, V: Device + Drop>(
     link: &[Tick],
     received: &[Tick],
 ) -> Result<(), NoMemory>
+    /// The lists have taken no item.
     requires fresh { MayListSession S.FrameBox C.FrameBox V.Device lists.old }
+    /// The recordings have at most 67,108,864 ticks together.
     requires short { length device.now + length link.now + length received.now ≤ 2 ^ 26 }
+    /// If there was memory, the lists are those of these recordings, each with its silence.
     ensures { OnOk result (ListsLines S.FrameBox C.FrameBox V.Device lists.old lists.new
         device.now link.now received.now) }
 {

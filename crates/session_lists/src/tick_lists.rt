@@ -66,7 +66,9 @@ impl TickLists {
 
     /// Returns lists that have taken no tick yet.
     pub fn new(alloc: Global) -> TickLists
+        /// They have 0 ticks.
         ensures none { ticks_listed result ≡ 0 }
+        /// They hold the parts of no item.
         ensures holds { HoldsParts result [] }
     {
         TickLists {

@@ -46,8 +46,11 @@ pub fn hunted_frames_are_spaced<R: Hunted>()
 /// last frame. The same holds for the members of the family. For devices that hunt for frames see
 /// `hunted_accepted_frames_leave`.
 pub fn accepted_frames_leave()
+    /// It holds for a Modbus RTU device, whose longest frame has 256 bytes.
     ensures rtu { (gap cap : ℕ) (line : List Tick) (rest : ℕ)
         → (cap + 1) * (256 + gap) + T3_5_TICKS ≤ rest → AllLeave rtu_reads gap cap line rest }
+    /// It holds for each member of the Modbus RTU family, with its cut as the silence that ends the
+    /// last frame.
     ensures rtu_family { (cut pause gap cap : ℕ) (line : List Tick) (rest : ℕ)
         → (cap + 1) * (256 + gap) + cut ≤ rest
         → AllLeave (rtu_family_reads cut pause) gap cap line rest }

@@ -28,16 +28,25 @@ pub trait Consumer {
 
     /// Takes the first ticks of this run, at least one, and returns how many.
     fn take_some(&mut self, run: TickRun<'_>) -> Result<usize, Stop>
+        /// There is at least one tick.
         requires some { 0 < length (run_ticks run) }
+        /// The consumer may be used, and may count these ticks.
         requires may { MayTake meaning self.old (run_items run) }
+        /// The consumer has taken the first ticks of the run, as many as are returned, at least
+        /// one; or it stopped at one of them, and the error says why.
         ensures { GivesSome meaning self.old self.new (run_items run.entry) result };
 
     /// Takes a mark, which isn't a tick.
     fn take_mark(&mut self) -> Result<(), Stop>
+        /// The consumer may be used.
         requires { MayTake meaning self.old (mark ∷ []) }
+        /// The consumer has taken the mark; or it stopped there, and the error says why.
         ensures { Gives meaning self.old self.new (mark ∷ []) result };
 
+    /// What is said of calls holds of no call at all.
     ghost went_none: { IsNoneDone meaning };
 
+    /// If it holds of calls that ended well and of those after them, it holds of all of them in a
+    /// row.
     ghost went_then: { AreJoined meaning };
 }

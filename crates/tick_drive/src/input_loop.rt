@@ -222,9 +222,14 @@ fn hand_last<C: Consumer>(ticks: u32, run: &Run, consumer: &mut C) -> Result<u32
 /// two stops. The consumer may have counted ticks before, as long as it can count as many more as
 /// an input may have.
 pub fn drive_with_room<S: Source, C: Consumer>(marks: u8, input: &mut S, consumer: &mut C) -> End
+    /// The consumer may be used, and may count as many more ticks as an input may have.
     requires { DriveHasRoom C.meaning consumer.old }
+    /// The consumer was given exactly the ticks and marks that were taken of the input, in order,
+    /// and the end says why no more were: the input's end, a refused byte, too many ticks or bytes,
+    /// a failed read, or the consumer.
     ensures driven { Drives C.meaning marks 0 (S.left input.old) (S.left input.new) consumer.old
         consumer.new result }
+    /// It ends with a failed read only if the input's count of faults rose.
     ensures read { IsReadCause (S.faults input.old) (S.faults input.new) (is_read_fault result) }
 {
     let mut intake = Intake::new(marks);
@@ -264,9 +269,14 @@ pub fn drive_with_room<S: Source, C: Consumer>(marks: u8, input: &mut S, consume
 /// Drives an input, read as tick text with exactly `marks` marks, into a consumer that has taken
 /// nothing yet, until one of the two stops.
 pub fn drive<S: Source, C: Consumer>(marks: u8, input: &mut S, consumer: &mut C) -> End
+    /// The consumer has taken nothing, and may be used.
     requires fresh { IsFresh C.meaning consumer.old }
+    /// The consumer was given exactly the ticks and marks that were taken of the input, in order,
+    /// and the end says why no more were: the input's end, a refused byte, too many ticks or bytes,
+    /// a failed read, or the consumer.
     ensures driven { Drives C.meaning marks 0 (S.left input.old) (S.left input.new) consumer.old
         consumer.new result }
+    /// It ends with a failed read only if the input's count of faults rose.
     ensures read { IsReadCause (S.faults input.old) (S.faults input.new) (is_read_fault result) }
 {
     drive_with_room(marks, input, consumer)
@@ -280,9 +290,13 @@ pub fn drive_to_rest<S: Source, C: Consumer>(
     input: &mut S,
     consumer: &mut C,
 ) -> End
+    /// The consumer has taken nothing, and may be used.
     requires fresh { IsFresh C.meaning consumer.old }
+    /// The consumer was given exactly the ticks and marks that were taken of the input, in order,
+    /// and behind a whole input the silence of rest. The end says why no more were taken.
     ensures driven { Drives C.meaning marks rest (S.left input.old) (S.left input.new) consumer.old
         consumer.new result }
+    /// It ends with a failed read only if the input's count of faults rose.
     ensures read { IsReadCause (S.faults input.old) (S.faults input.new) (is_read_fault result) }
 {
     match drive(marks, input, consumer) {

@@ -15,7 +15,9 @@ pub trait DrawnFrames: LineRules {
 
     /// Draws a frame.
     fn draw_frame(draws: &mut Draws) -> FrameBytes
+        /// The frame is the one that the definition draws from this state.
         ensures frame { result.items ≡ drawing.frame (draw_state draws.old) }
+        /// The state is the one that the definition's draws leave.
         ensures state { draw_state draws.new
             ≡ draw_state_after (drawing.draws (draw_state draws.old)) (draw_state draws.old) };
 

@@ -29,7 +29,9 @@ impl Draws {
     /// Draws the next number.
     #[inline]
     pub fn draw(&mut self) -> u32
+        /// The state becomes the next one of the generator.
         ensures state { draw_state self.new ≡ next_state (draw_state self.old) }
+        /// The number is the high half of the new state.
         ensures value { result ≡ drawn (draw_state self.new) }
     {
         self.state = self
@@ -42,8 +44,10 @@ impl Draws {
     /// Draws a byte for each of these places: the low byte of a draw.
     #[inline]
     pub fn draw_bytes(&mut self, places: &mut [u8])
+        /// The state becomes that after as many draws as there are places.
         ensures state { draw_state self.new
             ≡ draw_state_after (length places.old) (draw_state self.old) }
+        /// Each place gets the low byte of its draw.
         ensures bytes { places.new ≡ bytes_drawn (length places.old) (draw_state self.old) }
     {
         for place in places.iter_mut() {

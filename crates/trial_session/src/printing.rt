@@ -9,13 +9,13 @@ use device_model::Device;
 
 /// Appends a word and then a number, each with a blank before it.
 pub fn push_worded(line: &mut Line, word: &[u8], n: u64)
-    /// The word has at most ten bytes.
+    /// The word has at most 10 bytes.
     requires word { length word.now ≤ 10 }
-    /// The line has at most 500 bytes before.
+    /// The line has at most 500 bytes.
     requires room { length line.old.items ≤ 500 }
-    /// They stand behind what the line had.
+    /// The word and the number are appended, and nothing else changes.
     ensures line { line.new.items ≡ line.old.items ++ worded word.now n }
-    /// They are at most 40 bytes.
+    /// At most 40 bytes are appended.
     ensures short { length line.new.items ≤ length line.old.items + 40 }
 {
     line.push(b' ');
@@ -51,10 +51,15 @@ pub fn session_line<R: DrawnFrames, S: CountingBox, C: CountingBox, V: Device + 
     count: u32,
     behind: usize,
 ) -> Line
+    /// The name has at most 10 bytes.
     requires name { length name.now ≤ 10 }
+    /// At least one tick follows a frame in its packet.
     requires some { 0 < behind }
+    /// At most 64 ticks follow it.
     requires few { behind ≤ 64 }
+    /// The widths of the transmitter are ones that it can be made with.
     requires sealing { S.widths_fit }
+    /// The widths of the receiver are ones that it can be made with.
     requires checking { C.widths_fit }
     ensures { result.items ≡ trial_line name.now seed count
         (session_summary R.drawing behind S.counting C.counting V.reads seed count) }

@@ -120,10 +120,16 @@ pub fn try_session<R: DrawnFrames, S: CountingBox, C: CountingBox, V: Device + D
     count: u32,
     behind: usize,
 ) -> Summary
+    /// At least one tick follows a frame in its packet.
     requires some { 0 < behind }
+    /// At most 64 ticks follow it.
     requires few { behind ≤ 64 }
+    /// The widths of the transmitter are ones that it can be made with.
     requires sealing { S.widths_fit }
+    /// The widths of the receiver are ones that it can be made with.
     requires checking { C.widths_fit }
+    /// What is counted is what the definitions of the session, the boxes and the device give for
+    /// this seed and number of frames.
     ensures { result
         ≡ session_summary R.drawing behind S.counting C.counting V.reads seed count }
 {

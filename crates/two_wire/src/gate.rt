@@ -63,11 +63,11 @@ impl Spoken {
     /// Returns who spoke last after one more tick, in which the asker and the answerer drive the
     /// wires with these.
     pub fn after(self, ask: Tick, answer: Tick) -> Spoken
-        /// Fewer than `MAX_TICKS` silent ticks have come since.
+        /// Fewer than 2^62 silent ticks have come since somebody spoke.
         requires { quiet_of self < MAX_TICKS }
-        /// It is who has a byte in this tick, and otherwise who it was before, a tick longer ago.
+        /// It is who spoke last, and how many silent ticks ago, by the definition.
         ensures last { result ≡ after self ask answer }
-        /// At most one silent tick more has come since.
+        /// At most one more silent tick is counted.
         ensures counted { quiet_of result ≤ quiet_of self + 1 }
     {
         match (ask, answer) {
@@ -158,9 +158,13 @@ impl Gate {
     /// who spoke before: the side that asks waits first until nobody has said anything for `window`
     /// ticks, and the other one says nothing unasked.
     pub fn new(side: Side, waits: Waits) -> Gate
+        /// It knows of nobody who has spoken.
         ensures state { gate_state result ≡ at_rest }
+        /// It speaks for this side.
         ensures side { gate_side result ≡ side }
+        /// It waits for so long.
         ensures waits { gate_waits result ≡ waits }
+        /// It has counted 0 ticks.
         ensures ticks { gate_ticks result ≡ 0 }
     {
         Gate {
@@ -215,11 +219,17 @@ impl Gate {
     /// Goes on after a tick for which the receiver has returned this one, while this was heard of the
     /// others. Fewer than `MAX_TICKS` ticks were taken before.
     pub fn follow(&mut self, tick: Tick, heard: Tick)
+        /// Fewer than 2^62 ticks were taken before.
         requires { gate_ticks self.old < MAX_TICKS }
+        /// The gate knows who spoke last and how many silent ticks ago, the box by what it let
+        /// through.
         ensures state { gate_state self.new
             ≡ gate_after (gate_side self.old) (gate_waits self.old) (gate_state self.old) tick heard }
+        /// The side stays.
         ensures side { gate_side self.new ≡ gate_side self.old }
+        /// The waits stay.
         ensures waits { gate_waits self.new ≡ gate_waits self.old }
+        /// One more tick is counted.
         ensures ticks { gate_ticks self.new ≡ gate_ticks self.old + 1 }
     {
         let own = self.pass(tick);

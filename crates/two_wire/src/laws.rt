@@ -29,18 +29,21 @@ ghost use Rattle.two_wire.specs.Wires.{hears, drives, on_wires, AreApart};
 
 use line_rules::LineRules;
 
-/// A law of ports on shared wires. An adapter that echoes what its port sends and one that doesn't
-/// are the same to the port. A port never hears a tick in which it drives the wires. If it never
-/// drives them together with the others, it hears all that they say, and they hear all that it says.
-/// One of several devices hears what the box says and what the others say (*between*).
+/// A law of ports on shared wires.
 pub fn ports_are_deaf_to_themselves()
+    /// An adapter that echoes what its port sends and one that doesn't are the same to the port.
     ensures echo { (own wires : List Tick) → hears own (drives own wires) ≡ hears own wires }
+    /// A port never hears a byte in a tick in which it drives the wires.
     ensures deaf { (own wires : List Tick) → length own ≡ length wires
         → AreApart own (hears own wires) }
+    /// If a port never drives the wires together with the others, it hears all that they say.
     ensures other { (own other : List Tick) → AreApart own other
         → hears own (drives own other) ≡ other }
+    /// If a port never drives the wires together with the others, they hear all that it says.
     ensures own { (own other : List Tick) → AreApart own other
         → hears other (drives own other) ≡ own }
+    /// If nobody drives the wires together with another, one of several devices hears what the box
+    /// says and what the others say.
     ensures between { (own device others : List Tick) → AreApart own (drives device others)
         → AreApart device others
         → hears device (drives own (drives device others)) ≡ drives own others }
@@ -79,8 +82,10 @@ pub fn bursts_may_be_left_out()
 /// A law of a box, whatever is on its wires, two or four: what it gives to its device are some of
 /// the bursts that its receiver makes of what it hears on the link, whole.
 pub fn two_wire_box_gives_whole_bursts<R: LineRules>()
+    /// It holds for a box on two wires.
     ensures two_wires { (end : EndSetup) (w : EndWires) → IsTwoWire R.rules end w
         → GivesSome end.incoming R.rules end.got_floor end.late (heard_link w) w.to_device }
+    /// It holds for a box on four wires.
     ensures four_wires { (end : EndSetup) (l : EndLines) → IsFourWire R.rules end l
         → GivesSome end.incoming R.rules end.got_floor end.late l.from_link l.to_device }
 {}
@@ -88,10 +93,12 @@ pub fn two_wire_box_gives_whole_bursts<R: LineRules>()
 /// A law of a two-wire box whose ticks leave at least one tick later than they are decided: what is
 /// on both pairs of wires determines with which ticks the box drives them.
 pub fn two_wire_box_is_determined<R: LineRules>()
+    /// It determines what the box says to its device.
     ensures device { (end : EndSetup) (v w : EndWires) → 0 < end.late
         → IsTimely end.incoming R.rules → IsTwoWire R.rules end v → IsTwoWire R.rules end w
         → v.device_wires ≡ w.device_wires → v.link_wires ≡ w.link_wires
         → v.to_device ≡ w.to_device }
+    /// It determines what the box sends on the link.
     ensures link { (end : EndSetup) (v w : EndWires) → 0 < end.late
         → IsTimely end.incoming R.rules → IsTwoWire R.rules end v → IsTwoWire R.rules end w
         → v.device_wires ≡ w.device_wires → v.link_wires ≡ w.link_wires
@@ -130,48 +137,52 @@ pub fn four_wire_devices_read_what_was_sealed()
         → ReadsOnlySealedApart (stated_rules device) (stated_reads device) end l seal_floor line }
 {}
 
-/// A law of two two-wire boxes on a link on which nothing is changed, for the rules of each protocol
-/// and each profile, wherever what is said is heard T ticks later at the other end: the delay of the
-/// receiver, and twice the ticks that what a box decides takes to leave.
+/// A law of two two-wire boxes on a link on which nothing is changed, for the rules of each
+/// protocol and each profile, wherever what is said is heard T ticks later at the other end: the
+/// delay of the receiver, and twice the ticks that what a box decides takes to leave.
 ///
 /// A master and devices take turns as `TakeTurns` says. An answer, of one frame or several, begins
-/// after a device has waited for so long that the gate at the master's end has heard the request end,
-/// and less than `window` silent ticks ago, as it hears them. Each further frame follows it by the
-/// delay and three ticks at least, and before that gate takes the answer to have ended. Behind an
-/// answer the master goes on when the gate at the devices' end takes it to have ended, as it hears
-/// it, or where nobody answers, when that gate no longer waits and the request can be sealed. The
-/// first request comes when that gate has waited for as long. Then on the pairs of wires at both ends
-/// nobody ever talks while another does. All frames are sealed and pass, and each is heard at the
-/// other end whole, T ticks later (*delivered*).
-///
-/// The same holds whenever both gates let all through, and on no pair of wires anybody talks while
-/// another does (*in_turn*).
+/// after a device has waited for so long that the gate at the master's end has heard the request
+/// end, and less than `window` silent ticks ago, as it hears them. Each further frame follows it by
+/// the delay and three ticks at least, and before that gate takes the answer to have ended. Behind
+/// an answer the master goes on when the gate at the devices' end takes it to have ended, as it
+/// hears it, or where nobody answers, when that gate no longer waits and the request can be sealed.
+/// The first request comes when that gate has waited for as long.
 pub fn polls_are_delivered<R: LineRules>()
+    /// If tags have their length and words a byte or more, nobody ever talks on the pairs of wires
+    /// at both ends while another does. All frames are sealed and pass, and each is heard at the
+    /// other end whole, T ticks later.
     ensures delivered { (p : Polling) (start : ℕ) (polls : List Poll) (more : ℕ)
         → HasTags p.ab → 1 ≤ p.ab.word_len → HasTags p.ba → 1 ≤ p.ba.word_len
         → PollInTurn R.rules p start polls more
         → PollsAreDelivered R.rules (polls_of p start polls more) }
+    /// The same holds whenever both gates let all through, and nobody talks on any pair of wires
+    /// while another does.
     ensures in_turn { (p : Polling)
         → HasTags p.ab → 1 ≤ p.ab.word_len → HasTags p.ba → 1 ≤ p.ba.word_len
         → PollsInTurn R.rules p → PollsAreDelivered R.rules p }
 {}
 
-/// A law of a gate that has just begun, for a box that asks: it says nothing until nobody else has
-/// said anything for `window` ticks together, as it hears them (*waits*). So, whatever a device heard
-/// before the box was stopped, in mid-burst or not, and however long the box was down: a device that
-/// begins anew after `cut` silent ticks reads what the box says then as one that has heard nothing
-/// before, if `cut` isn't above `window`. Besides, a device that hunts for frames, as a DNP3 device
-/// does, reads only what it had read (*hunters*), and a Modbus RTU device at most one frame more
-/// (*rtu*).
+/// A law of a gate that has just begun, for a box that asks, whatever a device heard before the box
+/// was stopped, in mid-burst or not, and however long the box was down. It is about devices that
+/// begin anew after `cut` silent ticks, for a cut that isn't above `window`, nor above the ticks
+/// since the stop.
 pub fn gates_wait_at_first()
+    /// The gate says nothing until nobody else has said anything for `window` ticks together, as it
+    /// hears them.
     ensures waits { (waits : Waits) (ticks heard : List Tick)
         → (gated Asks waits at_rest ticks heard
         ≡ silent (length (gated Asks waits at_rest ticks heard)))
         ⊎ WaitsFirst waits.window (gated Asks waits at_rest ticks heard) heard }
+    /// A Modbus RTU device reads what the box says then as one that has heard nothing before, and
+    /// besides at most one frame more than it had read.
     ensures rtu { (cut gap down : ℕ) (end : EndSetup) (l : EndLines) (before : List Tick)
         → IsFourWire rtu_rules end l → end.side ≡ Asks → cut ≤ end.waits.window
         → cut ≤ down + length l.to_device
         → ReadsAnew (rtu_family_reads cut gap) 1 down before l.to_device }
+    /// A device that hunts, and begins anew after `cut` silent ticks, for a cut of at least 1,
+    /// reads what the box says then as one that has heard nothing before, and besides only what it
+    /// had read.
     ensures hunters { (first second : ℕ) (rules : Rules) (cut down : ℕ) (end : EndSetup)
         (l : EndLines) (before : List Tick)
         → IsFourWire rules end l → end.side ≡ Asks → 1 ≤ cut → cut ≤ end.waits.window
@@ -180,15 +191,18 @@ pub fn gates_wait_at_first()
 {}
 
 /// A law of a gate after anything that has gone wrong, as an answer that came after its window and
-/// was held back, or began together with the next question. If nothing is on its way, a box that asks
-/// lets all through again that keeps the turns once `window` silent ticks have come (*asks*), and a
-/// box that answers does from the next question on (*answers*).
+/// was held back, or began together with the next question. Nothing is on its way: the receiver has
+/// returned two silent ticks.
 pub fn gates_recover()
+    /// A gate of a box that asks, whose pause isn't above its window, lets all through again that
+    /// keeps the turns once `window` silent ticks have come, if it has let a byte through before.
     ensures asks { (waits : Waits) (g : GateState) (k : ℕ) (ticks others : List Tick)
         → 2 ≤ g.quiet → ((quiet : ℕ) → g.spoken ≡ Nobody quiet → ⊥) → waits.pause ≤ waits.window
         → waits.window ≤ k → length ticks ≡ length others
         → InTurn Asks waits (Asker k) ticks others
         → gated Asks waits g (silent k ++ ticks) (silent k ++ others) ≡ silent k ++ ticks }
+    /// A gate of a box that answers lets all through again from the next byte of a question on in
+    /// which its receiver returns silence.
     ensures answers { (waits : Waits) (g : GateState) (c : ℕ) (ticks others : List Tick)
         → 2 ≤ g.quiet → length ticks ≡ length others → InTurn Answers waits (Asker 0) ticks others
         → gated Answers waits g (Silent ∷ ticks) (Byte c ∷ others) ≡ Silent ∷ ticks }

@@ -38,24 +38,39 @@ impl<S: LinkBox, C: LinkBox> TwoWire<S, C> {
     /// its device sends, and the side for which it speaks to its device. For so long is
     /// waited there.
     pub fn new(key: &[u8], outgoing: Dir, side: Side, waits: Waits) -> TwoWire<S, C>
+        /// The widths of the transmitter are ones that it can be made with.
         requires outgoing_fits { S.widths_fit }
+        /// The widths of the receiver are ones that it can be made with.
         requires incoming_fits { C.widths_fit }
 
+        /// Its outgoing direction is this one.
         ensures direction { outgoing_direction (pair_of result) ≡ outgoing }
+        /// The transmitter has taken 0 ticks.
         ensures none_sent { S.taken (outgoing_box (pair_of result)) ≡ 0 }
+        /// The receiver has taken 0 ticks.
         ensures none_got { C.taken (incoming_box (pair_of result)) ≡ 0 }
+        /// The transmitter's link is that of its direction.
         ensures outgoing_link { S.link_of (outgoing_box (pair_of result)) ≡ S.link_in outgoing }
+        /// The receiver's link is that of the other direction.
         ensures incoming_link { C.link_of (incoming_box (pair_of result))
             ≡ C.link_in (opposite_of outgoing) }
+        /// The transmitter begins with this key, at whatever floor its journal has.
         ensures sends { (floor : ℕ) → S.stands (outgoing_box (pair_of result)) floor
             (setup_of key.now outgoing floor) [] }
+        /// The receiver begins with this key, at whatever floor its journal has.
         ensures gets { (floor : ℕ) → C.stands (incoming_box (pair_of result)) floor
             (setup_of key.now (opposite_of outgoing) floor) [] }
+        /// The gate is at rest.
         ensures gate { gate_state (gate_of result) ≡ at_rest }
+        /// The gate has counted 0 ticks.
         ensures ticks { gate_ticks (gate_of result) ≡ 0 }
+        /// The gate speaks for this side.
         ensures side { gate_side (gate_of result) ≡ side }
+        /// The gate waits for so long.
         ensures waits { gate_waits (gate_of result) ≡ waits }
+        /// It drives the device's wires with silence first.
         ensures device_silent { for_device result ≡ Silent }
+        /// It drives the link's wires with silence first.
         ensures link_silent { link_now result ≡ Silent }
     {
         TwoWire {
@@ -100,29 +115,43 @@ impl<S: LinkBox, C: LinkBox> TwoWire<S, C> {
         got: &mut Journal,
         got_disk: &mut Y,
     ) -> Result<PairStep<S::Note, C::Note>, DuplexFault>
+        /// The journals serve the two directions of one line.
         requires journals { AreOfLine (outgoing_direction (pair_of self.old)) sent.old got.old }
+        /// The transmitter may take a tick, with this journal over its disk.
         requires outgoing { MayStep (S.link_of (outgoing_box (pair_of self.old)))
             (S.taken (outgoing_box (pair_of self.old))) sent.old (X.told sent_disk.old) }
+        /// The receiver may take a tick, with this journal over its disk.
         requires incoming { MayStep (C.link_of (incoming_box (pair_of self.old)))
             (C.taken (incoming_box (pair_of self.old))) got.old (Y.told got_disk.old) }
+        /// Fewer than 2^62 ticks were taken before.
         requires room { gate_ticks (gate_of self.old) < MAX_TICKS }
 
+        /// Its outgoing direction stays.
         ensures direction { outgoing_direction (pair_of self.new)
             ≡ outgoing_direction (pair_of self.old) }
+        /// Each box takes what was heard on its wires, which is silence while the box drove them.
+        /// All else is as `BoxPair::step` says.
         ensures heard { StepsBoth S.LinkBox C.LinkBox X.SlotDisk Y.SlotDisk
             (heard (device_now self.old) device_wires) (heard (link_now self.old) link_wires)
             (ways_of (pair_of self.old) sent.old sent_disk.old got.old got_disk.old)
             (ways_of (pair_of self.new) sent.new sent_disk.new got.new got_disk.new) result }
+        /// After a step that succeeds, the gate has gone on by what it drove the device's wires
+        /// with, and by what was heard there.
         ensures gate { OnOk result (gate_state (gate_of self.new)
             ≡ gate_after (gate_side (gate_of self.old)) (gate_waits (gate_of self.old))
             (gate_state (gate_of self.old)) (for_device self.old)
             (heard (device_now self.old) device_wires)) }
+        /// After a step that succeeds, the gate has counted one more tick.
         ensures ticks { OnOk result (gate_ticks (gate_of self.new)
             ≡ gate_ticks (gate_of self.old) + 1) }
+        /// After a step that succeeds, the gate speaks for the same side.
         ensures side { OnOk result (gate_side (gate_of self.new) ≡ gate_side (gate_of self.old)) }
+        /// After a step that succeeds, the gate waits for as long as before.
         ensures waits { OnOk result (gate_waits (gate_of self.new)
             ≡ gate_waits (gate_of self.old)) }
+        /// It will drive the device's wires with the tick that the step returns for them.
         ensures made { IfOk result (λ step. for_device self.new ≡ step.device) }
+        /// It will drive the link's wires with the tick that the step returns for them.
         ensures sent { IfOk result (λ step. link_now self.new ≡ step.link) }
     {
         let from_device = hear(self.device_tick(), device_wires);

@@ -50,12 +50,18 @@ impl<S: LinkBox, C: LinkBox> SteadyEnd<S, C> {
     /// Returns a box that has taken no tick, for a key of any length, the line's direction in which
     /// its device sends, and the side for which it speaks to its device.
     pub fn new(key: &[u8], outgoing: Dir, side: Side, waits: Waits) -> SteadyEnd<S, C>
+        /// The widths of the transmitter are ones that it can be made with.
         requires outgoing_fits { S.widths_fit }
+        /// The widths of the receiver are ones that it can be made with.
         requires incoming_fits { C.widths_fit }
+        /// The links of both boxes are the two directions of one line.
         requires links { AreLinksOfLine outgoing (S.link_in outgoing)
             (C.link_in (opposite_of outgoing)) }
+        /// The box may go on.
         ensures able { MayGoOn S.LinkBox C.LinkBox result }
+        /// It has taken 0 ticks.
         ensures ticks { steady_ticks result ≡ 0 }
+        /// It begins with this key, at floor 0 both ways, with no step taken.
         ensures driven { HasDriven S.LinkBox C.LinkBox side waits
             (setup_of key.now outgoing 0) (setup_of key.now (opposite_of outgoing) 0) result [] }
     {
@@ -101,10 +107,15 @@ impl<S: LinkBox, C: LinkBox> SteadyEnd<S, C> {
     /// `device_tick` and `link_tick`, with or without an echo of that. Fewer than `MAX_TICKS` ticks
     /// were taken before.
     pub fn step(&mut self, device_wires: Tick, link_wires: Tick) -> PairStep<S::Note, C::Note>
+        /// The box may go on.
         requires able { MayGoOn S.LinkBox C.LinkBox self.old }
+        /// Fewer than 2^62 ticks were taken before.
         requires room { steady_ticks self.old < MAX_TICKS }
+        /// The box may go on.
         ensures able { MayGoOn S.LinkBox C.LinkBox self.new }
+        /// One more tick is taken.
         ensures ticks { steady_ticks self.new ≡ steady_ticks self.old + 1 }
+        /// The step is one more of the steps that the definition of a two-wire box describes.
         ensures driven { (side : Side) (waits : Waits) (sent_setup got_setup : Setup)
             (steps : List (WireStep S.Note C.Note))
             → HasDriven S.LinkBox C.LinkBox side waits sent_setup got_setup

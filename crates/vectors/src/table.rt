@@ -83,8 +83,11 @@ impl Case {
 
     /// Returns a case with copies of these three lists.
     pub fn new(kind: CaseKind, key: &[u8], text: &[u8], want: &[u8]) -> Case
+        /// The key has at most 80 bytes.
         requires key { length key.now ≤ 80 }
+        /// The text has at most 80 bytes.
         requires text { length text.now ≤ 80 }
+        /// The value has at most 80 bytes.
         requires want { length want.now ≤ 80 }
         ensures { result ≡ case_of kind key.now text.now want.now }
     {
@@ -144,8 +147,11 @@ fn before_miss(cases: &[Case]) -> Option<usize>
 /// that isn't right.
 #[tactic(auto, unfolding(crate::specs::Cases::answer))]
 pub fn run_table(cases: &[Case]) -> Result<(), Miss>
+    /// There are fewer than 2^32 cases.
     requires { length cases.now < 2 ^ 32 }
+    /// The result is the answer to the table.
     ensures value { result ≡ answer cases.now }
+    /// Either each case is right, or the row that is returned is the first that isn't.
     ensures first { IsAnswer cases.now result }
 {
     match before_miss(cases) {
@@ -176,7 +182,9 @@ macro_rules! table {
 /// any.
 #[tactic(auto, unfolding(crate::specs::Tables::crc_cases))]
 pub fn crc_table() -> (u32, Result<(), Miss>)
+    /// It has as many rows as the table of CRCs.
     ensures rows { result.0 ≡ length crc_cases }
+    /// The result is the answer to this table.
     ensures answer { result.1 ≡ answer crc_cases }
 {
     table! {
@@ -191,7 +199,9 @@ pub fn crc_table() -> (u32, Result<(), Miss>)
 /// any.
 #[tactic(auto, unfolding(crate::specs::Tables::hmac_cases))]
 pub fn hmac_table() -> (u32, Result<(), Miss>)
+    /// It has as many rows as the table of MACs.
     ensures rows { result.0 ≡ length hmac_cases }
+    /// The result is the answer to this table.
     ensures answer { result.1 ≡ answer hmac_cases }
 {
     table! {
@@ -218,7 +228,9 @@ pub fn hmac_table() -> (u32, Result<(), Miss>)
 /// any.
 #[tactic(auto, unfolding(crate::specs::Tables::frames_cases))]
 pub fn frames_table() -> (u32, Result<(), Miss>)
+    /// It has as many rows as the table of frames.
     ensures rows { result.0 ≡ length frames_cases }
+    /// The result is the answer to this table.
     ensures answer { result.1 ≡ answer frames_cases }
 {
     table! {
@@ -237,7 +249,9 @@ pub fn frames_table() -> (u32, Result<(), Miss>)
 /// if any.
 #[tactic(auto, unfolding(crate::specs::Tables::user_cases))]
 pub fn user_table() -> (u32, Result<(), Miss>)
+    /// It has as many rows as the table of user data.
     ensures rows { result.0 ≡ length user_cases }
+    /// The result is the answer to this table.
     ensures answer { result.1 ≡ answer user_cases }
 {
     table! {

@@ -62,13 +62,22 @@ pub fn record_wires<S: LineBox, C: LineBox, I: Source>(
     at: WireEnd,
     input: &mut I,
 ) -> Result<Recorded, End>
+    /// The widths of the transmitter are ones that it can be made with.
     requires outgoing { S.widths_fit }
+    /// The widths of the receiver are ones that it can be made with.
     requires incoming { C.widths_fit }
+    /// The links of both boxes are those of one line, the transmitter's in this direction and the
+    /// receiver's in the other one.
     requires links { AreLinksOfLine at.outgoing (S.link_in at.outgoing)
         (C.link_in (opposite_of at.outgoing)) }
+    /// If the input ends whole, with one mark, the texts are what a two-wire box with this gate
+    /// drives the link and its device's wires with, and its notes, for these wires with the silence
+    /// that follows. Otherwise it is said how the input ended and what was taken of it; it is
+    /// stopped only for want of memory.
     ensures records { RecordsBoth (wire_texts_with (timed_of S.walking S.line_of)
         (timed_of C.walking C.line_of) at.side at.waits key.now at.outgoing)
         (I.left input.old) (I.left input.new) result }
+    /// It ends with a failed read only if the input's count of faults rose.
     ensures read { IsReadCause (I.faults input.old) (I.faults input.new) (is_read_answer result) }
 {
     let lists = match list_ticks(alloc, 1, input) {

@@ -298,7 +298,9 @@ pub extern "C" fn yasir_take_silence(
 /// Returns the last number that the box used, or 0 if the handle holds no box.
 #[unsafe(no_mangle)]
 pub extern "C" fn yasir_floor(alloc: Global, handle: &mut Handle) -> u64
+    /// The handle holds what it held.
     ensures kept { handle.new.held.value ≡ handle.old.held.value }
+    /// The number is the last one that the box used, or 0 if the handle holds no box.
     ensures tells { result ≡ floor_told handle.old.held.value }
 {
     let Some(held) = taken_out(alloc, handle) else {

@@ -61,55 +61,89 @@ pub trait SlotDisk {
 
     /// Reads an old slot. No call writes one.
     fn read_old(&mut self, slot: Slot) -> Result<OldSlotBytes, Failed>
+        /// If the disk tells its slots, these are the old slot's bytes.
         ensures bytes { IfOk result (λ bytes. IfSome (told self.old)
             (λ slots. bytes ≡ old_slot_in slots slot)) }
+        /// The slots read as before.
         ensures told { told self.new ≡ told self.old }
+        /// A crash may leave nothing else than before.
         ensures images { NoMore (may_leave self.old) (may_leave self.new) }
+        /// A crash may leave all that it might have left before.
         ensures images_back { NoMore (may_leave self.new) (may_leave self.old) }
+        /// Time goes on: a crash since an earlier moment might have left what it might have left
+        /// before, or what it may leave now.
         ensures time { Elapses (moment self.old) (moment self.new) (left_since self.old)
             (left_since self.new) (may_leave self.new) }
+        /// The count of faults rose if the call failed, and is as it was otherwise.
         ensures cause { HasCause (faults self.old) (faults self.new) result };
 
+    /// Reads a slot.
     fn read_slot(&mut self, slot: Slot) -> Result<SlotBytes, Failed>
+        /// If the disk tells its slots, these are the slot's bytes.
         ensures bytes { IfOk result (λ bytes. IfSome (told self.old)
             (λ slots. bytes ≡ slot_in slots slot)) }
+        /// The slots read as before.
         ensures told { told self.new ≡ told self.old }
+        /// A crash may leave nothing else than before.
         ensures images { NoMore (may_leave self.old) (may_leave self.new) }
+        /// A crash may leave all that it might have left before.
         ensures images_back { NoMore (may_leave self.new) (may_leave self.old) }
+        /// Time goes on: a crash since an earlier moment might have left what it might have left
+        /// before, or what it may leave now.
         ensures time { Elapses (moment self.old) (moment self.new) (left_since self.old)
             (left_since self.new) (may_leave self.new) }
+        /// The count of faults rose if the call failed, and is as it was otherwise.
         ensures cause { HasCause (faults self.old) (faults self.new) result };
 
     /// Sets a slot. After a failure it reads as before, but a crash may leave any bytes there.
     fn write_slot(&mut self, slot: Slot, bytes: &SlotBytes) -> Result<(), Failed>
+        /// If it succeeds, this slot reads as these bytes, and all others as before.
         ensures written { OnOk result (told self.new
             ≡ option_map (λ slots. with_slot slots slot bytes.now) (told self.old)) }
+        /// If it fails, the slots read as before.
         ensures unwritten { OnErr result (told self.new ≡ told self.old) }
+        /// A crash may leave nothing else than what it might have left before, with any 24 bytes in
+        /// this slot.
         ensures images { Follows (Torn slot) (may_leave self.old) (may_leave self.new) }
+        /// A crash may leave all that it might have left before, with any 24 bytes in this slot.
         ensures images_back { Reaches (Torn slot) (may_leave self.old) (may_leave self.new) }
+        /// Time goes on: a crash since an earlier moment might have left what it might have left
+        /// before, or what it may leave now.
         ensures time { Elapses (moment self.old) (moment self.new) (left_since self.old)
             (left_since self.new) (may_leave self.new) }
+        /// The count of faults rose if the call failed, and is as it was otherwise.
         ensures cause { HasCause (faults self.old) (faults self.new) result };
 
     /// Makes what was written outlive a crash.
     fn sync(&mut self) -> Result<(), Failed>
+        /// If it succeeds, a crash leaves nothing else than the slots as they read.
         ensures durable { OnOk result (OneImage (told self.new) (may_leave self.new)) }
+        /// If it succeeds, a crash may leave the slots as they read, if it might have left anything
+        /// before.
         ensures as_read { OnOk result (LeavesAsRead (may_leave self.old) (told self.new)
             (may_leave self.new)) }
+        /// The slots read as before.
         ensures told { told self.new ≡ told self.old }
+        /// A crash may leave nothing else than before.
         ensures images { NoMore (may_leave self.old) (may_leave self.new) }
+        /// If it fails, a crash may leave all that it might have left before.
         ensures images_back { OnErr result (NoMore (may_leave self.new) (may_leave self.old)) }
+        /// Time goes on: a crash since an earlier moment might have left what it might have left
+        /// before, or what it may leave now.
         ensures time { Elapses (moment self.old) (moment self.new) (left_since self.old)
             (left_since self.new) (may_leave self.new) }
+        /// The count of faults rose if the call failed, and is as it was otherwise.
         ensures cause { HasCause (faults self.old) (faults self.new) result };
 
     /// The slots as they read are one of the images, if there are any.
     ghost reads_an_image: { (disk : Self) (s c : Slots) → told disk ≡ Some s → may_leave disk c
         → may_leave disk s };
 
+    /// What a crash may leave now counts among what one since any earlier moment might have left.
     ghost counts_now: { (disk : Self) (t : ℕ) (c : Slots) → t ≤ moment disk → may_leave disk c
         → left_since disk t c };
 
+    /// What a crash since this moment might have left is what one may leave now.
     ghost only_now: { (disk : Self) (c : Slots) → left_since disk (moment disk) c
         → may_leave disk c };
 }

@@ -22,7 +22,9 @@ impl<I: Read + Drop> StdinSource<I> {
 
     /// Returns a source of what the reader gives.
     pub fn new(reader: I) -> StdinSource<I>
+        /// It reads from this reader.
         ensures reader { reader_of result ≡ reader }
+        /// No read of it has failed.
         ensures faults { reader_faults result ≡ 0 }
     {
         StdinSource {
@@ -69,9 +71,13 @@ impl<W: Write + Drop> WriterSink<W> {
 
     /// Returns a sink that gives pieces to the writer.
     pub fn new(writer: W) -> WriterSink<W>
+        /// It writes to this writer.
         ensures writer { writer_of result ≡ writer }
+        /// No call of it has failed.
         ensures faults { writer_faults result ≡ 0 }
+        /// It was never flushed.
         ensures flushes { writer_flushes result ≡ 0 }
+        /// Nothing was written to it.
         ensures unflushed { writer_unflushed result ≡ false }
     {
         WriterSink {

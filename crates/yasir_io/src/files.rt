@@ -90,9 +90,13 @@ pub struct FileSource<'a, R: OpensFiles> {
 impl<'a, R: OpensFiles> FileSource<'a, R> {
     /// Returns a source of the file at a path. The file isn't opened yet.
     pub fn new(rt: &'a R, path: Option<String>) -> FileSource<'a, R>
+        /// No read of it has failed.
         ensures faults { file_faults result ≡ 0 }
+        /// No file is open.
         ensures closed { file_of result ≡ None }
+        /// It has this path.
         ensures path { file_path result ≡ path }
+        /// It will open the file for reading only.
         ensures options { file_options result ≡ for_reading }
     {
         let mut options = OpenOptions::new();
@@ -145,12 +149,20 @@ where
 {
     /// Returns a disk in the file at a path. The file isn't opened yet.
     pub fn new(rt: &'a R, path: Option<String>, kind: SlotFile) -> FileSlots<'a, R>
+        /// No call of it has failed.
         ensures faults { slots_faults result ≡ 0 }
+        /// No file is open.
         ensures closed { slots_file result ≡ OwnFile.Closed }
+        /// It has this path.
         ensures path { slots_path result ≡ path }
+        /// It will open the file for reading and writing, without truncating it, and make it only
+        /// for a new journal.
         ensures options { slots_options result ≡ for_slots kind }
+        /// It is of this kind.
         ensures kind { slots_kind result ≡ kind }
+        /// No write was begun.
         ensures written { slots_written result ≡ 0 }
+        /// Nothing was synced.
         ensures synced { slots_synced result ≡ 0 }
     {
         let mut options = OpenOptions::new();

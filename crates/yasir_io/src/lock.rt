@@ -13,7 +13,9 @@ pub trait Lock {
     /// error if another run holds it, or if the file system gives no lock. The system releases the
     /// lock with the last handle of the file, even if the process is killed.
     fn try_lock(&mut self) -> io::Result<()>
+        /// If it succeeds, the file is taken, as far as the file system tells that.
         ensures taken { OnOk result (taken self.old self.new) }
+        /// If it fails, the file is as it was.
         ensures untaken { OnErr result (self.new ≡ self.old) };
 }
 

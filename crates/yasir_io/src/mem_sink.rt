@@ -32,15 +32,25 @@ impl MemSink {
         piece: u16,
         fail: Plan,
     ) -> Result<MemSink, NoMemory>
+        /// A call may move at least one byte.
         requires some { 1 ≤ piece }
+        /// A call may move at most 512 bytes.
         requires within { piece ≤ 512 }
+        /// It holds no byte.
         ensures bytes { IfOk result (λ sink. sink_bytes sink ≡ []) }
+        /// It has this room.
         ensures room { IfOk result (λ sink. sink_room sink ≡ room) }
+        /// A call moves at most `piece` bytes.
         ensures piece { IfOk result (λ sink. sink_piece sink ≡ piece) }
+        /// These calls are planned to fail.
         ensures plan { IfOk result (λ sink. sink_plan sink ≡ fail.items) }
+        /// It has counted 0 calls.
         ensures calls { IfOk result (λ sink. sink_calls sink ≡ 0) }
+        /// No call has failed.
         ensures faults { IfOk result (λ sink. sink_faults sink ≡ 0) }
+        /// It was never flushed.
         ensures flushes { IfOk result (λ sink. sink_flushes sink ≡ 0) }
+        /// Nothing was written to it.
         ensures unflushed { IfOk result (λ sink. sink_unflushed sink ≡ false) }
     {
         let Ok(bytes) = Vec::with_capacity(alloc, room) else {

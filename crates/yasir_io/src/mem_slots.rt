@@ -107,16 +107,23 @@ impl MemSlots {
         calls: usize,
         fail: Plan,
     ) -> Result<MemSlots, NoMemory>
+        /// It has these slots.
         ensures slots { IfOk result (λ disk. mem_slots disk ≡ record {
           a = a;
           b = b;
           old = record { a = old_a; b = old_b };
         }) }
+        /// It has room to record this many calls.
         ensures room { IfOk result (λ disk. slots_room disk ≡ calls) }
+        /// It has recorded 0 calls.
         ensures recorded { IfOk result (λ disk. slots_recorded disk ≡ 0) }
+        /// These calls are planned to fail.
         ensures plan { IfOk result (λ disk. slots_plan disk ≡ fail.items) }
+        /// It has counted 0 calls.
         ensures calls { IfOk result (λ disk. slots_calls disk ≡ 0) }
+        /// No call has failed.
         ensures faults { IfOk result (λ disk. mem_faults disk ≡ 0) }
+        /// A crash leaves nothing else than these slots.
         ensures synced { IfOk result (λ disk. OneImage (Some (mem_slots disk)) (MayLeave disk)) }
     {
         let Ok(past) = Vec::with_capacity(alloc, calls) else {

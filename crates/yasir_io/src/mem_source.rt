@@ -22,12 +22,19 @@ impl<'a> MemSource<'a> {
     /// Returns a source of these bytes. A call moves at most `piece` of them. The calls in `fail`,
     /// counted from 1, fail.
     pub fn new(bytes: &'a [u8], piece: u16, fail: Plan) -> MemSource<'a>
+        /// A call may move at least one byte.
         requires some { 1 ≤ piece }
+        /// A call may move at most 512 bytes.
         requires within { piece ≤ 512 }
+        /// It has these bytes left.
         ensures bytes { source_bytes result ≡ bytes.now }
+        /// A call moves at most `piece` bytes.
         ensures piece { source_piece result ≡ piece }
+        /// These calls are planned to fail.
         ensures plan { source_plan result ≡ fail.items }
+        /// It has counted 0 calls.
         ensures calls { source_calls result ≡ 0 }
+        /// No call has failed.
         ensures faults { source_faults result ≡ 0 }
     {
         MemSource {

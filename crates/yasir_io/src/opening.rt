@@ -18,7 +18,11 @@ pub trait OpensFiles: Files {
 
     /// Opens the file at a path.
     fn open_at(&self, options: &OpenOptions, path: &str) -> io::Result<Self::File>
+        /// A file that is returned was opened at this path with these options, as far as the file
+        /// system tells that.
         ensures opened { IfOk result (λ file. opened options.now path.now file) }
+        /// If none is returned, opening this path with these options was refused, as far as the
+        /// file system tells that.
         ensures refused { OnErr result (refused options.now path.now) };
 }
 

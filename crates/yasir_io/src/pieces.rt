@@ -29,7 +29,9 @@ impl Pieces {
 
     /// Returns pieces of which nothing has been read yet.
     pub fn new() -> Pieces
+        /// No byte is kept.
         ensures kept { kept_bytes result ≡ [] }
+        /// No read has returned 0.
         ensures ended { has_ended result ≡ false }
     {
         Pieces {
@@ -44,31 +46,36 @@ impl Pieces {
     /// it is always `None`.
     #[inline]
     pub fn next<S: Source>(&mut self, source: &mut S) -> Result<Option<u8>, Failed>
-        // Each byte comes exactly once, in its order.
+        /// Each byte comes exactly once, in its order.
         ensures next { IfOk result (λ next. to_come self.old (S.left source.old)
             ≡ prepend_known (option_to_list next) (to_come self.new (S.left source.new))) }
+        /// A read that fails loses no byte.
         ensures err { OnErr result (to_come self.new (S.left source.new)
             ≡ to_come self.old (S.left source.old)) }
 
-        // A byte that is kept is returned without a read.
+        /// A byte that is kept is returned without a read.
         ensures kept { (b : ℕ) (rest : List ℕ) → kept_bytes self.old ≡ b ∷ rest
             → (result ≡ Ok (Some b)) × (kept_bytes self.new ≡ rest) × (source.new ≡ source.old) }
 
-        // The pieces end only at the end of the source.
+        /// A byte that is returned doesn't end the pieces.
         ensures still_open { IfOk result
             (λ next. OnSome next (has_ended self.new ≡ has_ended self.old)) }
+        /// A read that fails doesn't end the pieces.
         ensures err_open { OnErr result (has_ended self.new ≡ has_ended self.old) }
 
-        // A read fails only if nothing is kept.
+        /// A read fails only if nothing is kept.
         ensures err_kept { OnErr result ((kept_bytes self.old ≡ []) × (kept_bytes self.new ≡ [])) }
 
-        // At the end of the source, and after it.
+        /// If there is no next byte, the pieces have ended, and nothing is kept.
         ensures end { result ≡ Ok None → (has_ended self.new ≡ true) × (kept_bytes self.new ≡ []) }
+        /// The pieces end only at the end of the source.
         ensures nothing_left { result ≡ Ok None → has_ended self.old ≡ false
             → IsAtEnd (S.left source.new) }
+        /// Once they have ended and nothing is kept, there is no next byte, and nothing changes.
         ensures for_good { has_ended self.old ≡ true → kept_bytes self.old ≡ []
             → (result ≡ Ok None) × (self.new ≡ self.old) × (source.new ≡ source.old) }
 
+        /// The source's count of faults rose if a read failed, and is as it was otherwise.
         ensures cause { HasCause (S.faults source.old) (S.faults source.new) result }
     {
         if self.place == self.end {
@@ -117,8 +124,11 @@ impl Pieces {
     /// Skips the first `n` of the bytes that are kept.
     #[inline]
     pub fn skip(&mut self, n: usize)
+        /// At least `n` bytes are kept.
         requires { n ≤ length (kept_bytes self.old) }
+        /// All but the first `n` of the bytes that were kept are kept.
         ensures kept { kept_bytes self.new ≡ drop n (kept_bytes self.old) }
+        /// Whether the pieces have ended is as it was.
         ensures ended { has_ended self.new ≡ has_ended self.old }
     {
         self.place += n;
@@ -128,28 +138,33 @@ impl Pieces {
     /// returned 0, this one or an earlier one.
     #[inline(always)]
     pub fn fill<S: Source>(&mut self, source: &mut S) -> Result<bool, Failed>
-        // No byte is lost.
+        /// No byte is lost.
         ensures same { to_come self.new (S.left source.new) ≡ to_come self.old (S.left source.old) }
+        /// If it returns true, a byte is kept.
         ensures some { result ≡ Ok true → 0 < length (kept_bytes self.new) }
 
-        // If a byte is kept, nothing is read.
+        /// If a byte is kept, nothing is read.
         ensures kept { 0 < length (kept_bytes self.old)
             → (result ≡ Ok true) × (self.new ≡ self.old) × (source.new ≡ source.old) }
 
-        // The pieces end only at the end of the source.
+        /// Bytes that come don't end the pieces.
         ensures still_open { result ≡ Ok true → has_ended self.new ≡ has_ended self.old }
+        /// A read that fails doesn't end the pieces.
         ensures err_open { OnErr result (has_ended self.new ≡ has_ended self.old) }
 
-        // A read fails only if nothing is kept.
+        /// A read fails only if nothing is kept.
         ensures err_kept { OnErr result ((kept_bytes self.old ≡ []) × (kept_bytes self.new ≡ [])) }
 
-        // At the end of the source, and after it.
+        /// If it returns false, the pieces have ended, and nothing is kept.
         ensures end { result ≡ Ok false → (has_ended self.new ≡ true) × (kept_bytes self.new ≡ []) }
+        /// The pieces end only at the end of the source.
         ensures nothing_left { result ≡ Ok false → has_ended self.old ≡ false
             → IsAtEnd (S.left source.new) }
+        /// Once they have ended and nothing is kept, it returns false, and nothing changes.
         ensures for_good { has_ended self.old ≡ true → kept_bytes self.old ≡ []
             → (result ≡ Ok false) × (self.new ≡ self.old) × (source.new ≡ source.old) }
 
+        /// The source's count of faults rose if a read failed, and is as it was otherwise.
         ensures cause { HasCause (S.faults source.old) (S.faults source.new) result }
     {
         if !self.kept().is_empty() {

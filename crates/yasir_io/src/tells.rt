@@ -19,7 +19,9 @@ pub trait TellsHeld: Write {
 
     /// Hands on what the writer holds.
     fn flush_out(&mut self) -> io::Result<()>
+        /// What the writer got stays as it was.
         ensures bytes { Keeps (Self.contents self.old) (Self.contents self.new) }
+        /// After a flush that succeeds the writer is flushed, as far as it tells that.
         ensures flushed { OnOk result (flushed self.new) };
 
     /// If what is held is known later, it was known before.

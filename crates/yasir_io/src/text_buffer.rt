@@ -22,7 +22,9 @@ impl TextBuffer {
 
     /// Returns a buffer without text.
     pub fn new() -> TextBuffer
+        /// Nothing waits.
         ensures waits { waiting_bytes result ≡ [] }
+        /// From whatever a sink holds on, the text is empty.
         ensures stands { (start : Option (List ℕ))
             → Buffered start start (waiting_bytes result) [] }
     {
@@ -34,13 +36,17 @@ impl TextBuffer {
     /// Adds a piece of any length to the text.
     #[inline]
     pub fn push<S: Sink>(&mut self, sink: &mut S, piece: &[u8]) -> Result<(), Failed>
+        /// The text has this piece behind it, and the sink has got all but what waits.
         ensures ok { OnOk result ((start : Option (List ℕ)) (text : List ℕ)
             → Buffered start (S.held sink.old) (waiting_bytes self.old) text
             → Buffered start (S.held sink.new) (waiting_bytes self.new) (text ++ piece.now)) }
+        /// After a failed write the sink has got a front of the text with this piece.
         ensures err { OnErr result ((start : Option (List ℕ)) (text : List ℕ)
             → Buffered start (S.held sink.old) (waiting_bytes self.old) text
             → GotPrefix start (S.held sink.new) (text ++ piece.now)) }
+        /// The sink's count of faults rose if a write failed, and is as it was otherwise.
         ensures cause { HasCause (S.faults sink.old) (S.faults sink.new) result }
+        /// No flush is counted.
         ensures flushes { S.flushes sink.new ≡ S.flushes sink.old }
     {
         if self.text.has_room(piece.len()) {
@@ -73,17 +79,24 @@ impl TextBuffer {
     /// Makes room for `count` bytes. If they don't fit, what waits goes to the sink first.
     #[inline]
     pub fn make_room<S: Sink>(&mut self, sink: &mut S, count: usize) -> Result<(), Failed>
+        /// It is asked for at most 65,536 bytes.
         requires { count ≤ 65536 }
+        /// The text is as it was, and the sink has got all but what waits.
         ensures ok { OnOk result ((start : Option (List ℕ)) (text : List ℕ)
             → Buffered start (S.held sink.old) (waiting_bytes self.old) text
             → Buffered start (S.held sink.new) (waiting_bytes self.new) text) }
+        /// There is room for this many bytes.
         ensures room { OnOk result (length (waiting_bytes self.new) + count ≤ 65536) }
+        /// If there was room before, nothing changes and no sink is called.
         ensures fits { length (waiting_bytes self.old) + count ≤ 65536
             → (self.new ≡ self.old) × (sink.new ≡ sink.old) }
+        /// After a failed write the sink has got a front of the text.
         ensures err { OnErr result ((start : Option (List ℕ)) (text : List ℕ)
             → Buffered start (S.held sink.old) (waiting_bytes self.old) text
             → GotPrefix start (S.held sink.new) text) }
+        /// The sink's count of faults rose if a write failed, and is as it was otherwise.
         ensures cause { HasCause (S.faults sink.old) (S.faults sink.new) result }
+        /// No flush is counted.
         ensures flushes { S.flushes sink.new ≡ S.flushes sink.old }
     {
         if self.text.has_room(count) {
@@ -94,14 +107,19 @@ impl TextBuffer {
 
     /// Writes what waits to the sink. It is up to the caller to flush it.
     pub fn drain<S: Sink>(&mut self, sink: &mut S) -> Result<(), Failed>
+        /// The sink has got the whole text.
         ensures ok { OnOk result ((start : Option (List ℕ)) (text : List ℕ)
             → Buffered start (S.held sink.old) (waiting_bytes self.old) text
             → Buffered start (S.held sink.new) [] text) }
+        /// Nothing waits.
         ensures empty { OnOk result (waiting_bytes self.new ≡ []) }
+        /// After a failed write the sink has got a front of the text.
         ensures err { OnErr result ((start : Option (List ℕ)) (text : List ℕ)
             → Buffered start (S.held sink.old) (waiting_bytes self.old) text
             → GotPrefix start (S.held sink.new) text) }
+        /// The sink's count of faults rose if a write failed, and is as it was otherwise.
         ensures cause { HasCause (S.faults sink.old) (S.faults sink.new) result }
+        /// No flush is counted.
         ensures flushes { S.flushes sink.new ≡ S.flushes sink.old }
     {
         write_all(sink, self.text.as_slice())?;

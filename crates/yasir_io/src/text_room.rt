@@ -44,7 +44,9 @@ impl<const CAP: usize> TextRoom<CAP> {
     /// Whether there is room for `count` more bytes.
     #[inline]
     pub fn has_room(&self, count: usize) -> bool
+        /// If it is true, there is room.
         ensures room { result ≡ true → length self.now.items + count ≤ CAP }
+        /// If it is false, there isn't.
         ensures full { result ≡ false → CAP < length self.now.items + count }
     {
         count <= CAP - self.len
@@ -53,6 +55,7 @@ impl<const CAP: usize> TextRoom<CAP> {
     /// Appends a piece. There must be room for it.
     #[inline]
     pub fn append(&mut self, piece: &[u8])
+        /// There is room for the piece.
         requires { length self.old.items + length piece.now ≤ CAP }
         ensures { self.new.items ≡ self.old.items ++ piece.now }
     {
@@ -66,7 +69,9 @@ impl<const CAP: usize> TextRoom<CAP> {
     /// it is copied, which takes no loop.
     #[inline(always)]
     pub fn append_front<const N: usize>(&mut self, piece: &[u8; N], count: usize)
+        /// The piece has at least `count` bytes.
         requires within { count ≤ N }
+        /// There is room for the whole piece.
         requires room { length self.old.items + N ≤ CAP }
         ensures { self.new.items ≡ self.old.items ++ take count piece.now }
     {

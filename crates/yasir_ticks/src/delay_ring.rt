@@ -71,7 +71,9 @@ impl<const D: usize> DelayRing<D> {
 
     /// Makes a ring of silent ticks.
     pub fn new() -> DelayRing<D>
+        /// It has at least one tick.
         requires some { 1 ≤ D }
+        /// It has at most 64 ticks.
         requires fits { D ≤ 64 }
         ensures { ring_ticks result ≡ silent D }
     {
@@ -108,7 +110,9 @@ impl<const D: usize> DelayRing<D> {
     /// Takes the next tick, and returns the one that came `D` turns before.
     #[inline(always)]
     pub fn turn(&mut self, t: Tick) -> Tick
+        /// It is the tick that leaves next.
         ensures answer { result ≡ slice_index_or (ring_ticks self.old) 0 Silent }
+        /// That tick is gone, and the new one is the last.
         ensures ticks { ring_ticks self.new ≡ drop 1 (ring_ticks self.old) ++ t ∷ [] }
     {
         self.make_room(1);
@@ -135,7 +139,9 @@ impl<const D: usize> DelayRing<D> {
     /// Takes these bytes, one in each tick, at most `MAX_RUN`.
     #[inline]
     pub fn pass_bytes(&mut self, bytes: &[u8])
+        /// There are at most 64 bytes.
         requires { length bytes.now ≤ 64 }
+        /// The bytes have gone through the ring as their ticks would, one after the other.
         ensures { ring_ticks self.new
             ≡ drop (length bytes.now) (ring_ticks self.old ++ map Byte bytes.now) }
     {
@@ -149,7 +155,9 @@ impl<const D: usize> DelayRing<D> {
     /// Takes this many silent ticks, at most `MAX_RUN`.
     #[inline]
     pub fn pass_silence(&mut self, ticks: usize)
+        /// There are at most 64 ticks.
         requires { ticks ≤ 64 }
+        /// The silent ticks have gone through the ring, one after the other.
         ensures { ring_ticks self.new ≡ drop ticks (ring_ticks self.old ++ silent ticks) }
     {
         self.make_room(ticks);
@@ -173,6 +181,7 @@ impl<const D: usize> DelayRing<D> {
     /// Returns the tick that leaves after `i` more turns.
     #[inline]
     pub fn peek(&self, i: usize) -> Tick
+        /// The ring has more than `i` ticks.
         requires { i < D }
         ensures { result ≡ slice_index_or (ring_ticks self.now) i Silent }
     {
@@ -203,9 +212,13 @@ impl<const D: usize> DelayRing<D> {
     /// Returns the bytes of the `most` ticks that leave next, up to the first silent one.
     #[inline]
     pub fn front_bytes(&self, most: usize) -> &[u8]
+        /// The ring has at least `most` ticks.
         requires { most ≤ D }
+        /// There are at most `most` bytes.
         ensures within { length result.now ≤ most }
+        /// They are those of the ticks that leave next.
         ensures bytes { map Byte result.now ≡ take (length result.now) (ring_ticks self.now) }
+        /// If there are fewer, the tick after them is silent.
         ensures all { length result.now < most
             → slice_index_or (ring_ticks self.now) (length result.now) Silent ≡ Silent }
     {
@@ -217,10 +230,15 @@ impl<const D: usize> DelayRing<D> {
     /// of them, or none if they are silent. So only the first tick is looked at.
     #[inline]
     pub fn alike_bytes(&self, count: usize) -> &[u8]
+        /// The ring has at least `count` ticks.
         requires within { count ≤ D }
+        /// The next `count` ticks are all bytes or all silent.
         requires alike { AreAlike (take count (ring_ticks self.now)) }
+        /// There are at most `count` bytes.
         ensures within { length result.now ≤ count }
+        /// They are those of the ticks that leave next.
         ensures bytes { map Byte result.now ≡ take (length result.now) (ring_ticks self.now) }
+        /// If there are fewer, the tick after them is silent.
         ensures all { length result.now < count
             → slice_index_or (ring_ticks self.now) (length result.now) Silent ≡ Silent }
     {
@@ -234,9 +252,13 @@ impl<const D: usize> DelayRing<D> {
     /// Returns how many of the `most` ticks that leave next are silent, up to the first byte.
     #[inline]
     pub fn front_silence(&self, most: usize) -> usize
+        /// The ring has at least `most` ticks.
         requires { most ≤ D }
+        /// It is at most `most`.
         ensures within { result ≤ most }
+        /// So many of the ticks that leave next are silent.
         ensures silent { take result (ring_ticks self.now) ≡ silent result }
+        /// If it is less, the tick after them is a byte.
         ensures all { result < most
             → (slice_index_or (ring_ticks self.now) result Silent ≡ Silent → ⊥) }
     {
@@ -254,9 +276,13 @@ impl<const D: usize> DelayRing<D> {
     /// Returns how many of the `most` ticks that leave next are alike: all silent, or all bytes.
     #[inline]
     pub fn front_alike(&self, most: usize) -> usize
+        /// The ring has at least `most` ticks.
         requires { most ≤ D }
+        /// It is at most `most`.
         ensures within { result ≤ most }
+        /// So many of the ticks that leave next are all bytes or all silent.
         ensures alike { AreAlike (take result (ring_ticks self.now)) }
+        /// It is at least 1 if `most` is.
         ensures some { 0 < most → 0 < result }
     {
         match self.peek(0) {

@@ -32,8 +32,11 @@ fn push_last<const CAP: usize>(line: &mut ArrayVec<u8, CAP>, rest: &[u8])
 
 /// Appends bytes as lower-case hex digits. There must be room for them.
 pub fn push_digits<const CAP: usize>(line: &mut ArrayVec<u8, CAP>, bytes: &[u8])
+    /// There is room for two digits for each byte.
     requires { length line.old.items + 2 * length bytes.now ≤ CAP }
+    /// The digits are appended, and nothing else changes.
     ensures digits { line.new.items ≡ line.old.items ++ encode_lower bytes.now }
+    /// Two bytes are appended for each byte.
     ensures long { length line.new.items ≡ length line.old.items + 2 * length bytes.now }
 {
     let mut rest = bytes;

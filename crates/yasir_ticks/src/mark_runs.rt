@@ -24,8 +24,11 @@ fn silence_in_vectors(marks: &[u8]) -> usize
 /// Returns how many of these marks are of silence, up to the first one of a byte.
 #[inline]
 pub fn silence_in_front(marks: &[u8]) -> usize
+    /// It is at most the number of marks.
     ensures within { result ≤ length marks.now }
+    /// Each mark before this place is of silence.
     ensures silent { (k : ℕ) → k < result → slice_index_or marks.now k 0 ≡ 0 }
+    /// The mark at this place, if there is one, is of a byte.
     ensures byte { result < length marks.now → slice_index_or marks.now result 0 ≡ 0 → ⊥ }
 {
     for at in silence_in_vectors(marks)..marks.len() {

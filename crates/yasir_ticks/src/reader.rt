@@ -44,8 +44,11 @@ impl TickReader {
 
     /// Returns a reader of a text with exactly `marks` marks.
     pub fn new(marks: u8) -> TickReader
+        /// It has taken no byte of a text with this many marks.
         ensures stands { StandsFor result marks [] }
+        /// Some right text with this many marks begins so.
         ensures begins { BeginsTickText marks [] }
+        /// It is in line 1.
         ensures line { reader_line result ≡ 1 }
     {
         TickReader {
@@ -315,26 +318,35 @@ impl TickReader {
     /// `Nothing`. After a refusal, each call returns the same refusal.
     #[inline]
     pub fn feed(&mut self, b: u8) -> Result<Run, BadTicks>
+        /// Fewer than 2^32 - 1 lines were counted before.
         requires { reader_line self.old < 2 ^ 32 - 1 }
+        /// A byte that isn't refused is taken after the text.
         ensures stands { (marks : ℕ) (text : List ℕ) → StandsFor self.old marks text
             → OnOk result (StandsFor self.new marks (text ++ b ∷ [])) }
+        /// A byte isn't refused only if some right text begins with the text and this byte.
         ensures begins { (marks : ℕ) (text : List ℕ) → StandsFor self.old marks text
             → OnOk result (BeginsTickText marks (text ++ b ∷ [])) }
-        // The run is that of the line that ended, if one did.
+        /// The run is that of the line that ended, if one did.
         ensures run { (marks : ℕ) (text : List ℕ) → StandsFor self.old marks text
             → IfOk result (λ run. ended_items (text ++ b ∷ [])
             ≡ ended_items text ++ items_of_run run) }
-        // It is `Nothing` exactly if no line with ticks or a mark ended.
+        /// It is `Nothing` if no line with ticks or a mark ended.
         ensures nothing { IfOk result (λ run. items_of_run run ≡ [] → run ≡ Run.Nothing) }
-        // The text is refused at its refused place, and nowhere else.
+        /// A byte is refused only if no right text begins with the text and this byte but one with
+        /// the text does, and the line and the cause are right.
         ensures refused { (marks : ℕ) (text : List ℕ) → StandsFor self.old marks text
             → IfErr result (λ bad. IsRefusedAfter marks text b
             × (bad.line ≡ line_after text) × (bad.why ≡ fault_after text b)) }
+        /// A byte that isn't refused counts a line exactly if it is an LF.
         ensures line { OnOk result (reader_line self.new
             ≡ (if b == line_feed then reader_line self.old + 1 else reader_line self.old)) }
+        /// A refused byte counts no line.
         ensures line_kept { OnErr result (reader_line self.new ≡ reader_line self.old) }
+        /// At most one line is counted.
         ensures line_by_one { reader_line self.new ≤ reader_line self.old + 1 }
+        /// The reader remembers a refusal.
         ensures remembered { IfErr result (λ bad. HasRefused self.new bad) }
+        /// After a refusal each call returns it, and changes nothing.
         ensures for_good { (bad : BadTicks) → HasRefused self.old bad
             → (result ≡ Err bad) × (self.new ≡ self.old) }
     {
@@ -343,13 +355,17 @@ impl TickReader {
 
     /// Takes the end of the text, and returns the run of a last line without LF, or `Nothing`.
     pub fn finish(mut self) -> Result<Run, BadTicks>
+        /// If the end is taken, the text is right, and represents the items of the lines that had
+        /// ended and the run that is returned.
         ensures right { (marks : ℕ) (text : List ℕ) → StandsFor self marks text
             → IfOk result (λ run. IsTickText marks text (ended_items text ++ items_of_run run)) }
-        // It is `Nothing` exactly if the last line has no tick and is no mark.
+        /// It is `Nothing` if the last line has no tick and is no mark.
         ensures nothing { IfOk result (λ run. items_of_run run ≡ [] → run ≡ Run.Nothing) }
+        /// If the end is refused, the text isn't right, and the line and the cause are.
         ensures refused { (marks : ℕ) (text : List ℕ) → StandsFor self marks text
             → IfErr result (λ bad. (¬ ((items : List Item) × IsTickText marks text items))
             × (bad.line ≡ line_after text) × (bad.why ≡ fault_at_end text)) }
+        /// After a refusal it returns that refusal.
         ensures again { (bad : BadTicks) → HasRefused self bad → result ≡ Err bad }
     {
         self.stop()

@@ -37,6 +37,7 @@ impl<'a> TickRun<'a> {
     /// Returns the first `count` ticks.
     #[inline]
     pub fn front(self, count: usize) -> TickRun<'a>
+        /// The run has at least `count` ticks.
         requires { count ≤ length (run_ticks self) }
         ensures { run_ticks result ≡ take count (run_ticks self.entry) }
     {
@@ -49,6 +50,7 @@ impl<'a> TickRun<'a> {
     /// Returns the ticks after the first `count`.
     #[inline]
     pub fn behind(self, count: usize) -> TickRun<'a>
+        /// The run has at least `count` ticks.
         requires { count ≤ length (run_ticks self) }
         ensures { run_ticks result ≡ drop count (run_ticks self.entry) }
     {
@@ -61,6 +63,7 @@ impl<'a> TickRun<'a> {
     /// Returns the first tick. There must be at least one.
     #[inline]
     pub fn first(self) -> Tick
+        /// The run has at least one tick.
         requires { 0 < length (run_ticks self) }
         ensures { run_ticks self.entry ≡ result ∷ drop 1 (run_ticks self.entry) }
     {

@@ -100,7 +100,9 @@ impl TickReader {
     /// Returns the bytes of the `+` line that ended last. They are kept until the next byte is fed.
     #[inline]
     pub fn line_bytes(&self) -> &[u8]
+        /// They are the bytes that the reader lends.
         ensures bytes { result.now ≡ lent_bytes self.now }
+        /// There are at most 32.
         ensures few { length result.now ≤ 32 }
     {
         self.bytes.as_slice()
@@ -307,10 +309,15 @@ impl TickReader {
     /// bytes had been fed one by one. The bytes of a `+` line are lent by `line_bytes`.
     #[inline(always)]
     pub fn take_usual(&mut self, bytes: &[u8]) -> Option<UsualLine>
+        /// The lines that were counted, and these bytes, are fewer than 2^32 together.
         requires { reader_line self.old + length bytes.now < 2 ^ 32 }
+        /// No more bytes are taken than there are.
         ensures within { IfSome result (λ line. line.taken ≤ length bytes.now) }
+        /// If a line is taken, the reader is as if its bytes had been fed one by one, and returns
+        /// what the line has.
         ensures fed { IfSome result
             (λ line. FeedsLine self.old bytes.now line.taken (Ok line.content) self.new) }
+        /// If no line is taken, the reader is as it was.
         ensures none { result ≡ None → self.new ≡ self.old }
     {
         let Place::Start = self.place else {
@@ -382,9 +389,15 @@ impl TickReader {
     /// The bytes of a `+` line are lent by `line_bytes`.
     #[inline(always)]
     pub fn feed_line(&mut self, bytes: &[u8]) -> FedLine
+        /// The lines that were counted, and these bytes, are fewer than 2^32 together.
         requires { reader_line self.old + length bytes.now < 2 ^ 32 }
+        /// No more bytes are taken than there are.
         ensures within { result.taken ≤ length bytes.now }
+        /// The reader is as if the bytes that are taken had been fed one by one, and returns what
+        /// the line has, or the refusal.
         ensures fed { FeedsLine self.old bytes.now result.taken result.line self.new }
+        /// After a refusal it takes nothing, returns that refusal, and is as it was, if it is given
+        /// a byte.
         ensures for_good { (bad : BadTicks) → HasRefused self.old bad → 0 < length bytes.now
             → (result.taken ≡ 0) × (result.line ≡ Err bad) × (self.new ≡ self.old) }
     {
