@@ -15,7 +15,7 @@ use Rattle.command_ends.specs.declared.link.Proto.{Proto, TheVariants.Rtu, TheVa
 use Rattle.command_ends.proofs.Running.{asks_one}
 use Rattle.std.proofs.Common.{◌≡◌, ◌∙◌, ℕ, zero, suc, List, [], ◌∷◌, Option, Some}
 use Rattle.std.proofs.Common.{None, cond, refl, sym, ap, arith, subst, ◌≤◌, ◌^◌, ◌<◌, inl}
-use Rattle.std.proofs.{Common.inr, Common.⊎_elim, lemmas.Fmt.decimal_is_IsNumeral}
+use Rattle.std.proofs.{Common.inr, Common.◌⊎◌, lemmas.Fmt.decimal_is_IsNumeral}
 use Rattle.std.specs.{Prelude.codes, Prelude.decimal, Str.Parse.digits_value}
 
 -- the side whose word this is
@@ -148,27 +148,42 @@ pub asked-floors : (words : List (List ℕ)) (asked : Option Command) → Asks w
 asked-floors words (Some (Audit proto profile dir sent got)) asks = (asks.2, asks.3)
 asked-floors words asked asks = tt
 
+-- The count of a trial, and of polls, is from 1 to 10000.
+trial-counts : (second seed : List ℕ) (n : ℕ) (command : Command) → n < 2 ^ 32
+    → IsCommand (codes "trial" ∷ second ∷ seed ∷ decimal n ∷ []) command → (1 ≤ n) × (n ≤ 10000)
+trial-counts second seed n command few so =
+    let words : List (List ℕ) = codes "trial" ∷ second ∷ seed ∷ decimal n ∷ [] in
+    let named : command ≡ Trial (proto_by second) (profile_by second) (digits_value 10 seed)
+    (digits_value 10 (decimal n)) = sym (command-in words command so) in
+    let this = subst (λ c. IsCommand words c) named so in
+    let same = number-by n (omega (arith, few)) in
+    (subst (λ k. 1 ≤ k) same this.1, subst (λ k. k ≤ 10000) same this.2)
+
+poll-counts : (second seed : List ℕ) (n : ℕ) (command : Command) → n < 2 ^ 32
+    → IsCommand (codes "poll" ∷ second ∷ seed ∷ decimal n ∷ []) command → (1 ≤ n) × (n ≤ 10000)
+poll-counts second seed n command few so =
+    let words : List (List ℕ) = codes "poll" ∷ second ∷ seed ∷ decimal n ∷ [] in
+    let named : command ≡ Poll (proto_by second) (profile_by second) (digits_value 10 seed)
+    (digits_value 10 (decimal n)) = sym (command-in words command so) in
+    let this = subst (λ c. IsCommand words c) named so in
+    let same = number-by n (omega (arith, few)) in
+    (subst (λ k. 1 ≤ k) same this.1, subst (λ k. k ≤ 10000) same this.2)
+
 -- If the words ask for a trial or for polls, the number that the last word spells is from 1 to 10000.
 pub drawn-counts : (first second seed count : List ℕ) (n : ℕ) (command : Command)
     → (first ≡ codes "trial") ⊎ (first ≡ codes "poll") → count ≡ decimal n → n < 2 ^ 32
     → IsCommand (first ∷ second ∷ seed ∷ count ∷ []) command → (1 ≤ n) × (n ≤ 10000)
 drawn-counts first second seed count n command verb spelled few asked =
-    let same = number-by n (omega (arith, few)) in
-    let named : command_in (first ∷ second ∷ seed ∷ decimal n ∷ []) ≡ command =
-    command-in _ command (subst (λ w. IsCommand (first ∷ second ∷ seed ∷ w ∷ []) command) spelled asked)
-    in
-    let so : IsCommand (first ∷ second ∷ seed ∷ decimal n ∷ [])
-    (command_in (first ∷ second ∷ seed ∷ decimal n ∷ [])) =
-    subst (λ c. IsCommand (first ∷ second ∷ seed ∷ decimal n ∷ []) c) (sym named)
-    (subst (λ w. IsCommand (first ∷ second ∷ seed ∷ w ∷ []) command) spelled asked) in
-    ⊎_elim (λ (is : first ≡ codes "trial").
-    let this = subst (λ v. IsCommand (v ∷ second ∷ seed ∷ decimal n ∷ [])
-    (command_in (v ∷ second ∷ seed ∷ decimal n ∷ []))) is so in
-    (subst (λ k. 1 ≤ k) same this.1, subst (λ k. k ≤ 10000) same this.2))
-    (λ (is : first ≡ codes "poll").
-    let this = subst (λ v. IsCommand (v ∷ second ∷ seed ∷ decimal n ∷ [])
-    (command_in (v ∷ second ∷ seed ∷ decimal n ∷ []))) is so in
-    (subst (λ k. 1 ≤ k) same this.1, subst (λ k. k ≤ 10000) same this.2)) verb
+    let so : IsCommand (first ∷ second ∷ seed ∷ decimal n ∷ []) command =
+    subst (λ w. IsCommand (first ∷ second ∷ seed ∷ w ∷ []) command) spelled asked in
+    elim verb [
+      | inl trial ↦
+          trial-counts second seed n command few
+          (subst (λ v. IsCommand (v ∷ second ∷ seed ∷ decimal n ∷ []) command) trial so)
+      | inr poll ↦
+          poll-counts second seed n command few
+          (subst (λ v. IsCommand (v ∷ second ∷ seed ∷ decimal n ∷ []) command) poll so)
+    ]
 
 -- words ask for one command at most
 pub one-command : (words : List (List ℕ)) (a b : Command) → IsCommand words a → IsCommand words b

@@ -1,7 +1,7 @@
 -- How many words a command has.
 use Rattle.link_replay.specs.{Words.IsCommand, declared.words.Command.Command}
 use Rattle.link_replay.specs.declared.words.Command.TheVariants.{Init, Read, Vectors, Seal, Check}
-use Rattle.link_replay.specs.declared.words.Command.TheVariants.{Replay, Trial, Space, Audit}
+use Rattle.link_replay.specs.declared.words.Command.TheVariants.{Replay, Trial, Poll, Space, Audit}
 use Rattle.link_replay.specs.declared.words.Command.TheVariants.{Duplex, TwoWire, LiveSeal, LiveCheck}
 use Rattle.link_replay.specs.declared.words.Command.TheVariants.{Help, Version}
 use Rattle.command_ends.proofs.Listed.{six}
@@ -43,6 +43,8 @@ words-count words (Check proto profile dir) h =
 words-count words (Replay proto profile dir) h =
     count-of 4 words (right-count 4 (omega arith) (omega arith) (inr (omega arith))) (ap length h.2)
 words-count words (Trial proto profile seed count) h =
+    count-of 4 words (right-count 4 (omega arith) (omega arith) (inr (omega arith))) (ap length h.3)
+words-count words (Poll proto profile seed count) h =
     count-of 4 words (right-count 4 (omega arith) (omega arith) (inr (omega arith))) (ap length h.3)
 words-count words (Space proto profile) h =
     count-of 2 words (right-count 2 (omega arith) (omega arith) (inl (omega arith))) (ap length h)

@@ -172,7 +172,8 @@ module _ {K S O L D : Type 0} (k : Source K) (s : Source S) (o : Sink O) (l : Si
   asked_done (Some (Poll proto profile seed count)) before after NoMemory may calm does causes =
       inr refl
   asked_done (Some (Poll proto profile seed count)) before after status may calm does causes =
-      inl (text_done _ _ _ _ _ _ _ _ _ _ calm _ _ _ status does.prints.printed causes.streams.sinks)
+      inl (text_done _ _ _ _ _ _ _ _ _ _ calm does.text (o.held before.out) (o.held after.out) status
+      does.prints.printed causes.streams.sinks)
   asked_done (Some (Space proto profile)) before after status may calm does causes =
       elim (right_input_done space_rest _ _ (TextsHaveSent (spaced_by proto profile) _ _)
       (HasSentFronts (spaced_by proto profile) _ _) (TakesNothing (spaced_by proto profile) _ _ _ _)

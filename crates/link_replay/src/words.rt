@@ -498,11 +498,14 @@ pub fn key_word(words: &[String]) -> Option<usize>
         Ok(Command::Init(..) | Command::Read(_) | Command::Vectors) => None,
         Ok(Command::Trial(..) | Command::Poll(..) | Command::Space(..)) => None,
         Ok(Command::Help | Command::Version) => None,
-        Ok(Command::Seal(..) | Command::Check(..) | Command::Replay(..)) => Some(3),
+        Ok(Command::Seal(..)) => Some(3),
+        Ok(Command::Check(..)) => Some(3),
+        Ok(Command::Replay(..)) => Some(3),
         Ok(Command::Audit(..)) => Some(3),
         Ok(Command::Duplex(..)) => Some(3),
         Ok(Command::TwoWire(..)) => Some(6),
-        Ok(Command::LiveSeal(..) | Command::LiveCheck(..)) => Some(4),
+        Ok(Command::LiveSeal(..)) => Some(4),
+        Ok(Command::LiveCheck(..)) => Some(4),
         Err(Usage) => None,
     }
 }
@@ -518,13 +521,15 @@ pub fn journal_word(words: &[String]) -> Option<usize>
 {
     match read_words(words) {
         Ok(Command::Init(..)) => Some(3),
-        Ok(Command::Seal(..) | Command::Check(..)) => Some(4),
+        Ok(Command::Seal(..)) => Some(4),
+        Ok(Command::Check(..)) => Some(4),
         Ok(Command::Read(_) | Command::Vectors | Command::Help | Command::Version) => None,
         Ok(Command::Replay(..) | Command::Trial(..) | Command::Poll(..) | Command::Space(..)) =>
             None,
         Ok(Command::Audit(..)) => None,
         Ok(Command::Duplex(..) | Command::TwoWire(..)) => None,
-        Ok(Command::LiveSeal(..) | Command::LiveCheck(..)) => Some(5),
+        Ok(Command::LiveSeal(..)) => Some(5),
+        Ok(Command::LiveCheck(..)) => Some(5),
         Err(Usage) => None,
     }
 }

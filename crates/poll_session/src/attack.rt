@@ -1,6 +1,7 @@
 //! An attacker on the link of a session of polls, who has no key.
 ghost use Rattle.std.specs.Prelude.{◌≡◌, length};
 
+use crate::devices::Reply;
 use trial_session::{DrawnFrames, Draws, FrameBytes};
 use yasir_ticks::Tick;
 
@@ -14,7 +15,7 @@ enum Act {
     Turn(u8),
     /// Silence.
     Cut,
-    /// So many first bytes of a frame, and then the frame.
+    /// So many first bytes of one frame, and then another frame.
     Burst(usize),
     /// What was there so many ticks earlier.
     Repeat(u64),
@@ -46,8 +47,9 @@ pub struct Moment {
 #[derive(Drop)]
 pub struct Attack {
     draws: Draws,
-    // a frame that nobody seals
+    // a frame that nobody seals, and the one whose first bytes come before it
     frame: FrameBytes,
+    lead: FrameBytes,
     past: [Tick; 2048],
     first: Plan,
     second: Plan,
@@ -60,6 +62,7 @@ impl Attack {
         Attack {
             draws: Draws::new(seed),
             frame: FrameBytes::new(),
+            lead: FrameBytes::new(),
             past: [Tick::Silent; 2048],
             first: NOTHING,
             second: NOTHING,
@@ -87,10 +90,14 @@ impl Attack {
         }
     }
 
-    // A tick of the first bytes of the frame, and then of the frame.
+    // A tick of the first bytes of the one frame, and then of the other one.
     fn burst_tick(&self, at: usize, front: usize) -> Tick {
-        let place = if at < front { at } else { at - front };
-        match self.frame.as_slice().get(place) {
+        let byte = if at < front {
+            self.lead.as_slice().get(at)
+        } else {
+            self.frame.as_slice().get(at - front)
+        };
+        match byte {
             Some(byte) => Tick::Byte(*byte),
             None => Tick::Silent,
         }
@@ -107,6 +114,7 @@ impl Attack {
     // so many ticks after what is being said there, this many ticks long, has ended. It isn't aimed
     // if that is too soon.
     fn aim<R: DrawnFrames>(&mut self, len: u64, quiet: u64, moment: Moment) -> Plan {
+        self.lead = R::draw_frame(&mut self.draws);
         self.frame = R::draw_frame(&mut self.draws);
         let front = if self.below(2) == 0 { 1 } else { 10 };
         let ahead = moment.delay.saturating_add(1 + front);
@@ -169,6 +177,46 @@ impl Attack {
             }
             _ => self.repeat(kind == 3, start, len),
         }
+    }
+
+    // Draws a frame of at most so many bytes, if one of the next 64 is as short, and one whose first
+    // bytes come before it. Returns whether one was.
+    fn draw_short<R: DrawnFrames>(&mut self, most: u64) -> bool {
+        self.lead = R::draw_frame(&mut self.draws);
+        for _ in 0..64u32 {
+            self.frame = R::draw_frame(&mut self.draws);
+            if self.frame.as_slice().len() as u64 <= most {
+                return true;
+            }
+        }
+        false
+    }
+
+    /// Plans what to do if a device has read a request, and its answer comes: a frame that begins on
+    /// the wires to the device in the tick in which the answer has ended, behind some bytes of
+    /// another one. All of it is on the link before the answer is: then the box there hears nothing.
+    pub fn on_reply<R: DrawnFrames>(&mut self, reply: Option<Reply>, moment: Moment) {
+        let Some(Reply { ticks, len }) = reply else {
+            return;
+        };
+        if self.below(4) != 0 {
+            return;
+        }
+        let most = moment.delay.saturating_add(2).saturating_sub(len);
+        if most < 4 || !self.draw_short::<R>(most) {
+            return;
+        }
+        let front = if self.below(2) == 0 { 1 } else { 10 };
+        let ahead = moment.delay.saturating_add(1 + front);
+        let behind = ticks.saturating_add(len);
+        if behind <= ahead {
+            return;
+        }
+        self.second = Plan {
+            act: Act::Burst(front as usize),
+            start: moment.now.saturating_add(behind - ahead),
+            len: front + self.frame.as_slice().len() as u64,
+        };
     }
 
     /// Plans what to do if the master begins a request of this length.

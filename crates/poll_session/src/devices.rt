@@ -3,6 +3,14 @@ use trial_session::{DrawnFrames, Draws, FrameBytes};
 use two_wire::{Spoken, Waits};
 use yasir_ticks::Tick;
 
+/// In how many ticks an answer begins, if nobody speaks before, and how many bytes its first frame
+/// has.
+#[derive(Clone, Copy)]
+pub struct Reply {
+    pub ticks: u64,
+    pub len: u64,
+}
+
 /// Devices that answer most of the requests that they read, with one frame or two.
 #[derive(Drop)]
 pub struct Devices {
@@ -69,12 +77,38 @@ impl Devices {
         }
     }
 
+    /// When the answer begins to a request that was read in this tick, if one was and is to be
+    /// answered, and it was so long ago that somebody spoke last.
+    pub fn reply(&self, is_read: bool, turn: Spoken) -> Option<Reply> {
+        if !is_read || self.left == 0 || self.at != 0 || self.goes_on {
+            return None;
+        }
+        match turn {
+            Spoken::Asker(quiet) => Some(Reply {
+                ticks: self.late.saturating_sub(quiet).saturating_add(1),
+                len: self.frame.as_slice().len() as u64,
+            }),
+            Spoken::Nobody(_) | Spoken::Answerer(_) => None,
+        }
+    }
+
+    // Draws four frames, and keeps the shortest, since most answers are short.
+    fn draw_answer<R: DrawnFrames>(&mut self) {
+        self.frame = R::draw_frame(&mut self.draws);
+        for _ in 0..3u32 {
+            let other = R::draw_frame(&mut self.draws);
+            if other.as_slice().len() < self.frame.as_slice().len() {
+                self.frame = other;
+            }
+        }
+    }
+
     /// Goes on after a tick in which a request was read or not.
     pub fn hear<R: DrawnFrames>(&mut self, is_read: bool) {
         if !is_read || self.at != 0 {
             return;
         }
-        self.frame = R::draw_frame(&mut self.draws);
+        self.draw_answer::<R>();
         self.left = match self.draws.draw() % 8 {
             0 => 0,
             1 | 2 => 2,

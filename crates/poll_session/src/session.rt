@@ -170,7 +170,10 @@ impl<S: LinkBox, C: LinkBox, X: FrameBox, Y: FrameBox, V: Device + Drop> PollSes
             .on_answer::<R>(answered.said, self.devices.begins(), moment);
         self.master.note::<R>(asked.said);
         self.devices.note::<R>(answered.said);
-        self.devices.hear::<R>(read < self.b.read().len());
+        let is_read = read < self.b.read().len();
+        self.devices.hear::<R>(is_read);
+        let reply = self.devices.reply(is_read, self.b.turn());
+        self.attack.on_reply::<R>(reply, moment);
         self.ticks += 1;
         Ok(())
     }
