@@ -6,6 +6,7 @@ use Rattle.yasir_io.specs.declared.edge.WriterSink.{WriterSink}
 use Rattle.yasir_io.specs.declared.files.FileSource.{FileSource}
 use Rattle.yasir_io.specs.declared.files.FileSlots.{FileSlots}
 use Rattle.yasir_io.specs.declared.files.SlotFile.{SlotFile}
+use Rattle.yasir_io.specs.declared.reason.Reason.{Reason}
 use Rattle.yasir_io.specs.declared.lazy_file.OwnFile.{OwnFile}
 use Rattle.std.specs.declared.fs.OpenOptions.{OpenOptions}
 use Rattle.std.specs.declared.string.String.{String}
@@ -18,6 +19,10 @@ reader_of source = source.reader
 -- how often a read has failed
 abbrev pub reader_faults : {I : Type 0} → StdinSource I → ℕ
 reader_faults source = source.faults.count
+
+-- why the last read that failed was refused
+abbrev pub reader_reason : {I : Type 0} → StdinSource I → Option Reason
+reader_reason source = source.faults.reason
 
 -- the writer of a sink
 abbrev pub writer_of : {W : Type 0} → WriterSink W → W
@@ -51,6 +56,10 @@ file_options source = source.file.name.options
 abbrev pub file_faults : {R F D : Type 0} → FileSource R F D → ℕ
 file_faults source = source.faults.count
 
+-- why the last read of the file that failed was refused
+abbrev pub file_reason : {R F D : Type 0} → FileSource R F D → Option Reason
+file_reason source = source.faults.reason
+
 -- the file of slots: closed, waiting to be taken, or the run's own
 abbrev pub slots_file : {R F D : Type 0} → FileSlots R F D → OwnFile F
 slots_file disk = disk.file.file
@@ -78,3 +87,7 @@ slots_synced disk = disk.reach.synced
 -- how often a call on the file of slots has failed
 abbrev pub slots_faults : {R F D : Type 0} → FileSlots R F D → ℕ
 slots_faults disk = disk.faults.count
+
+-- why the last call on the file of slots that failed was refused
+abbrev pub slots_reason : {R F D : Type 0} → FileSlots R F D → Option Reason
+slots_reason disk = disk.faults.reason

@@ -11,6 +11,7 @@ pub mod MemSource
 pub mod Opening
 pub mod Output
 pub mod Pieces
+pub mod Reasons
 pub mod SlotFiles
 pub mod Steady
 pub mod TextBuffer

@@ -6,7 +6,7 @@ ghost use Rattle.yasir_io.specs.Flushing.{IsCounted};
 
 use crate::faults::Faults;
 use crate::flushes::Flushes;
-use crate::{Failed, Sink, Source, TellsHeld, TellsLeft};
+use crate::{Failed, Reason, Sink, Source, TellsHeld, TellsLeft, TellsReason};
 use std::io::{Read, Write};
 
 /// A reader, such as standard input, as a source. Each read of the source is one of the reader, so
@@ -18,7 +18,8 @@ pub struct StdinSource<I: Read + Drop> {
 }
 
 impl<I: Read + Drop> StdinSource<I> {
-    ghost use Rattle.yasir_io.specs.Edge.{reader_of, reader_faults};
+    ghost use Rattle.std.specs.Prelude.{None};
+    ghost use Rattle.yasir_io.specs.Edge.{reader_of, reader_faults, reader_reason};
 
     /// Returns a source of what the reader gives.
     pub fn new(reader: I) -> StdinSource<I>
@@ -26,11 +27,23 @@ impl<I: Read + Drop> StdinSource<I> {
         ensures reader { reader_of result ≡ reader }
         /// No read of it has failed.
         ensures faults { reader_faults result ≡ 0 }
+        /// So it has no reason to tell.
+        ensures reason { reader_reason result ≡ None }
     {
         StdinSource {
             reader,
             faults: Faults::none(),
         }
+    }
+}
+
+impl<I: Read + Drop> TellsReason for StdinSource<I> {
+    ghost use Rattle.yasir_io.specs.Edge.{reader_reason};
+
+    ghost told_reason = { λ source. reader_reason source };
+
+    fn reason(&self) -> Option<Reason> {
+        self.faults.reason
     }
 }
 
@@ -44,7 +57,7 @@ impl<I: TellsLeft + Drop> Source for StdinSource<I> {
     fn read(&mut self, buf: &mut [u8]) -> Result<usize, Failed> {
         match self.reader.read(buf) {
             Ok(n) => Ok(n),
-            Err(_) => Err(self.faults.add()),
+            Err(error) => Err(self.faults.add_for(&error)),
         }
     }
 }

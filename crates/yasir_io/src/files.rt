@@ -3,16 +3,20 @@
 ghost use Rattle.std.specs.Prelude.{◌≡◌, ◌≤◌, length, max, Some, None, OnOk, OnErr, IfOk, nat_lt};
 ghost use Rattle.std.specs.Io.KnownBytes.{ReadConsumes};
 ghost use Rattle.yasir_io.specs.Causes.{HasCause};
-ghost use Rattle.yasir_io.specs.Edge.{file_of, file_path, file_options, file_faults};
+ghost use Rattle.yasir_io.specs.Reasons.{Explains};
+ghost use Rattle.yasir_io.specs.Edge.{file_of, file_path, file_options, file_faults, file_reason};
 ghost use Rattle.yasir_io.specs.Edge.{slots_file, slots_path, slots_kind, slots_options};
-ghost use Rattle.yasir_io.specs.Edge.{slots_faults, slots_written, slots_synced};
+ghost use Rattle.yasir_io.specs.Edge.{slots_faults, slots_reason, slots_written, slots_synced};
 ghost use Rattle.yasir_io.specs.SlotFiles.{for_reading, for_slots, is_made, slot_end};
 ghost use Rattle.yasir_io.specs.SlotFiles.{ReadsOld, ReadsSlot, WritesIn};
 ghost use Rattle.yasir_io.specs.Opening.{OnOpen, OnOwn};
 
 use crate::faults::Faults;
 use crate::lazy_file::{LazyFile, OwnFile, SlotsInFile, end_of, old_place_of, place_of};
-use crate::{Durable, Failed, Lock, OldSlotBytes, OpensFiles, Slot, SlotBytes, SlotDisk, Source};
+use crate::{
+    Durable, Failed, Lock, OldSlotBytes, OpensFiles, Reason, Slot, SlotBytes, SlotDisk, Source,
+    TellsReason,
+};
 use std::fs::OpenOptions;
 
 /// What is expected of the file of a disk.
@@ -92,6 +96,8 @@ impl<'a, R: OpensFiles> FileSource<'a, R> {
     pub fn new(rt: &'a R, path: Option<String>) -> FileSource<'a, R>
         /// No read of it has failed.
         ensures faults { file_faults result ≡ 0 }
+        /// So it has no reason to tell.
+        ensures reason { file_reason result ≡ None }
         /// No file is open.
         ensures closed { file_of result ≡ None }
         /// It has this path.
@@ -108,6 +114,14 @@ impl<'a, R: OpensFiles> FileSource<'a, R> {
     }
 }
 
+impl<'a, R: OpensFiles> TellsReason for FileSource<'a, R> {
+    ghost told_reason = { λ source. file_reason source };
+
+    fn reason(&self) -> Option<Reason> {
+        self.faults.reason
+    }
+}
+
 impl<'a, R: OpensFiles> Source for FileSource<'a, R> {
     ghost left = { λ _. None };
 
@@ -121,10 +135,11 @@ impl<'a, R: OpensFiles> Source for FileSource<'a, R> {
         ensures options { file_options self.new ≡ file_options self.old }
         ensures path { file_path self.new ≡ file_path self.old }
         ensures cause { HasCause (file_faults self.old) (file_faults self.new) result }
+        ensures reason { Explains (file_reason self.old) (file_reason self.new) result }
     {
         match self.file.read(buf) {
             Ok(n) => Ok(n),
-            Err(_) => Err(self.faults.add()),
+            Err(error) => Err(self.faults.add_for(&error)),
         }
     }
 }
@@ -151,6 +166,8 @@ where
     pub fn new(rt: &'a R, path: Option<String>, kind: SlotFile) -> FileSlots<'a, R>
         /// No call of it has failed.
         ensures faults { slots_faults result ≡ 0 }
+        /// So it has no reason to tell.
+        ensures reason { slots_reason result ≡ None }
         /// No file is open.
         ensures closed { slots_file result ≡ OwnFile.Closed }
         /// It has this path.
@@ -173,6 +190,14 @@ where
             reach: Reach::none(),
             faults: Faults::none(),
         }
+    }
+}
+
+impl<'a, R: OpensFiles> TellsReason for FileSlots<'a, R> {
+    ghost told_reason = { λ disk. slots_reason disk };
+
+    fn reason(&self) -> Option<Reason> {
+        self.faults.reason
     }
 }
 
@@ -207,10 +232,11 @@ where
         ensures written { slots_written self.new ≡ slots_written self.old }
         ensures synced { slots_synced self.new ≡ slots_synced self.old }
         ensures cause { HasCause (slots_faults self.old) (slots_faults self.new) result }
+        ensures reason { Explains (slots_reason self.old) (slots_reason self.new) result }
     {
         match self.file.read_at(old_place_of(slot)) {
             Ok(bytes) => Ok(bytes),
-            Err(_) => Err(self.faults.add()),
+            Err(error) => Err(self.faults.add_for(&error)),
         }
     }
 
@@ -225,10 +251,11 @@ where
         ensures written { slots_written self.new ≡ slots_written self.old }
         ensures synced { slots_synced self.new ≡ slots_synced self.old }
         ensures cause { HasCause (slots_faults self.old) (slots_faults self.new) result }
+        ensures reason { Explains (slots_reason self.old) (slots_reason self.new) result }
     {
         match self.file.read_at(place_of(slot)) {
             Ok(bytes) => Ok(bytes),
-            Err(_) => Err(self.faults.add()),
+            Err(error) => Err(self.faults.add_for(&error)),
         }
     }
 
@@ -246,6 +273,7 @@ where
         ensures written { slots_written self.new ≡ max (slots_written self.old) (slot_end slot) }
         ensures synced { slots_synced self.new ≡ slots_synced self.old }
         ensures cause { HasCause (slots_faults self.old) (slots_faults self.new) result }
+        ensures reason { Explains (slots_reason self.old) (slots_reason self.new) result }
     {
         self.reach.write(slot);
         match self.file.write_slot(self.kind, slot, bytes) {
@@ -253,7 +281,7 @@ where
                 self.kind = SlotFile::Standing;
                 Ok(())
             }
-            Err(_) => Err(self.faults.add()),
+            Err(error) => Err(self.faults.add_for(&error)),
         }
     }
 
@@ -272,6 +300,7 @@ where
         ensures synced { OnOk result (slots_synced self.new ≡ slots_written self.old) }
         ensures not_synced { OnErr result (slots_synced self.new ≡ slots_synced self.old) }
         ensures cause { HasCause (slots_faults self.old) (slots_faults self.new) result }
+        ensures reason { Explains (slots_reason self.old) (slots_reason self.new) result }
     {
         let whole = self.reach.is_longer();
         match self.file.sync(whole) {
@@ -279,7 +308,7 @@ where
                 self.reach.sync();
                 Ok(())
             }
-            Err(_) => Err(self.faults.add()),
+            Err(error) => Err(self.faults.add_for(&error)),
         }
     }
 }

@@ -3,7 +3,7 @@ ghost use Rattle.std.specs.Prelude.{◌≡◌, ◌≤◌, length, vec_len, vec_c
 ghost use Rattle.yasir_io.specs.declared.disk.TheConstants.{SLOT_LEN};
 
 use crate::calls::{Calls, NoMemory, Plan};
-use crate::{Failed, OldSlotBytes, Slot, SlotBytes, SlotDisk};
+use crate::{Failed, OldSlotBytes, Reason, Slot, SlotBytes, SlotDisk, TellsReason};
 use std::alloc::Global;
 
 /// All slots at a moment, and which of them were written since the last sync.
@@ -198,6 +198,16 @@ impl MemSlots {
         }
         self.past.push(self.present).unwrap();
         true
+    }
+}
+
+impl TellsReason for MemSlots {
+    ghost use Rattle.std.specs.Prelude.{None};
+
+    ghost told_reason = { λ _. None };
+
+    fn reason(&self) -> Option<Reason> {
+        None
     }
 }
 

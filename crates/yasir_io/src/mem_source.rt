@@ -2,7 +2,7 @@
 ghost use Rattle.std.specs.Prelude.{◌≤◌};
 
 use crate::calls::{Calls, Plan};
-use crate::{Failed, Source};
+use crate::{Failed, Reason, Source, TellsReason};
 
 /// Bytes in memory as a source, which fails at chosen calls.
 #[derive(Drop)]
@@ -42,6 +42,16 @@ impl<'a> MemSource<'a> {
             piece: usize::from(piece),
             calls: Calls::new(fail),
         }
+    }
+}
+
+impl<'a> TellsReason for MemSource<'a> {
+    ghost use Rattle.std.specs.Prelude.{None};
+
+    ghost told_reason = { λ _. None };
+
+    fn reason(&self) -> Option<Reason> {
+        None
     }
 }
 

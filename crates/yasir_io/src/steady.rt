@@ -1,9 +1,11 @@
 //! A source and a disk in memory that never fail.
-ghost use Rattle.std.specs.Prelude.{◌≡◌, Some};
+ghost use Rattle.std.specs.Prelude.{◌≡◌, Some, None};
 ghost use Rattle.yasir_io.specs.Disks.{slot_in};
 ghost use Rattle.yasir_io.specs.Steady.{steady_bytes, steady_slots, blank_old};
 
-use crate::{Failed, OLD_SLOT_LEN, OldSlotBytes, Slot, SlotBytes, SlotDisk, Source};
+use crate::{
+    Failed, OLD_SLOT_LEN, OldSlotBytes, Reason, Slot, SlotBytes, SlotDisk, Source, TellsReason,
+};
 
 /// Bytes in memory as a source that never fails.
 #[derive(Drop)]
@@ -17,6 +19,14 @@ impl<'a> SteadySource<'a> {
         ensures { steady_bytes result ≡ bytes.now }
     {
         SteadySource { bytes }
+    }
+}
+
+impl<'a> TellsReason for SteadySource<'a> {
+    ghost told_reason = { λ _. None };
+
+    fn reason(&self) -> Option<Reason> {
+        None
     }
 }
 
@@ -57,6 +67,14 @@ impl SteadySlots {
             Slot::A => self.a,
             Slot::B => self.b,
         }
+    }
+}
+
+impl TellsReason for SteadySlots {
+    ghost told_reason = { λ _. None };
+
+    fn reason(&self) -> Option<Reason> {
+        None
     }
 }
 

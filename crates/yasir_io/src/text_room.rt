@@ -36,7 +36,10 @@ impl<const CAP: usize> TextRoom<CAP> {
     /// Returns the bytes.
     #[inline]
     pub fn as_slice(&self) -> &[u8]
-        ensures { result.now ≡ self.now.items }
+        /// They are the bytes that it holds.
+        ensures value { result.now ≡ self.now.items }
+        /// There are at most `CAP` of them.
+        ensures few { length result.now ≤ CAP }
     {
         &self.bytes[..self.len]
     }
