@@ -11,7 +11,7 @@ import os, sys
 from sizes import ROOT, THIRD, crates_listed, files_that_name
 
 # The most files that may name a third protocol, and a third profile.
-BOUNDS = (6, 5)
+BOUNDS = (6, 4)
 
 
 def main():

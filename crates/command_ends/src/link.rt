@@ -126,6 +126,17 @@ impl Proto {
 impl Profile {
     ghost use Rattle.command_ends.specs.Links.{HasKnownNumber, delay_of};
 
+    /// Returns how many ticks a receiver of this profile holds each byte back.
+    pub fn delay(self) -> u8
+        /// It is the delay of the profile.
+        ensures { result ≡ delay_of self }
+    {
+        match self {
+            Profile::Y18 => 18,
+            Profile::Y24 => 24,
+        }
+    }
+
     /// Returns the profile for which a receiver has this delay, or `None` if there is none.
     pub fn of_delay(delay: u8) -> Option<Profile>
         ensures { HasKnownNumber delay_of delay result }

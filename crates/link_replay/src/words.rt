@@ -345,10 +345,9 @@ fn read_waited(word: &str) -> Result<u32, Usage>
 fn window_for(profile: Profile, side: Side, pause: u32) -> u32
     ensures { result ≡ least_window profile side pause }
 {
-    match (side, profile) {
-        (Side::Asks, _) => pause,
-        (Side::Answers, Profile::Y18) => 23,
-        (Side::Answers, Profile::Y24) => 29,
+    match side {
+        Side::Asks => pause,
+        Side::Answers => u32::from(profile.delay()) + 5,
     }
 }
 
