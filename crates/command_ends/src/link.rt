@@ -11,6 +11,7 @@ ghost use Rattle.command_ends.specs.Links.{link_of};
 use line_rules::LineRules;
 use link_format::Dir;
 use sequence_journal::LinkId;
+use yasir_ticks::T3_5_TICKS;
 
 /// The protocol of a line.
 #[derive(Clone, Copy, Debug, PartialEq, Eq)]
@@ -109,7 +110,18 @@ pub fn link_of(proto: Proto, profile: Profile, dir: Dir) -> LinkId
 }
 
 impl Proto {
-    ghost use Rattle.command_ends.specs.Links.{HasKnownNumber, label_of};
+    ghost use Rattle.command_ends.specs.Links.{HasKnownNumber, label_of, silence_of};
+
+    /// Returns how many silent ticks after its last byte the protocol's device reads a frame.
+    pub fn silence(self) -> u8
+        /// They are the silent ticks of the protocol's stated device.
+        ensures { result ≡ silence_of self }
+    {
+        match self {
+            Proto::Rtu => T3_5_TICKS,
+            Proto::Dnp3 => 0,
+        }
+    }
 
     /// Returns the protocol with this label, or `None` if there is none.
     pub fn of_label(label: u8) -> Option<Proto>
@@ -124,7 +136,7 @@ impl Proto {
 }
 
 impl Profile {
-    ghost use Rattle.command_ends.specs.Links.{HasKnownNumber, delay_of};
+    ghost use Rattle.command_ends.specs.Links.{HasKnownNumber, delay_of, gap_of};
 
     /// Returns how many ticks a receiver of this profile holds each byte back.
     pub fn delay(self) -> u8
@@ -135,6 +147,14 @@ impl Profile {
             Profile::Y18 => 18,
             Profile::Y24 => 24,
         }
+    }
+
+    /// Returns how many silent ticks this profile asks for between frames that will be sealed.
+    pub fn gap(self) -> u8
+        /// It is the gap of the profile.
+        ensures { result ≡ gap_of self }
+    {
+        self.delay() + 3
     }
 
     /// Returns the profile for which a receiver has this delay, or `None` if there is none.
