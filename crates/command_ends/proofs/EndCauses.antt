@@ -7,7 +7,7 @@ use Rattle.command_ends.specs.Causes.{InputCause, SinkCause}
 use Rattle.command_ends.specs.{Endings.status_of, declared.status.Status.Status}
 use Rattle.command_ends.specs.declared.status.Status.TheVariants.{Done, WriteFault}
 use Rattle.tick_drive.specs.declared.end.End.{End, TheVariants.Whole}
-use Rattle.tick_drive.specs.declared.end.End.TheVariants.{Refused, TooLong, ReadFault, Stopped}
+use Rattle.tick_drive.specs.declared.end.End.TheVariants.{ReadFault, Stopped}
 
 pub input_cause : (before now : ℕ) (end : End) → IsReadCause before now (is_read_fault end)
     → InputCause before now (status_of end)

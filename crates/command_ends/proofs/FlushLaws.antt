@@ -4,11 +4,12 @@ use Rattle.yasir_io.{proofs.FlushLaws.none_flushed_then, specs.Causes.Rose}
 use Rattle.yasir_io.specs.Flushed.{IsFlushed, IsNotFlushed, NoneFlushed}
 use Rattle.yasir_io.specs.{Flushing.one_more, declared.sink.Sink.Ghosts as Sink}
 use Rattle.tick_drive.specs.declared.consumer.Stop.TheVariants as stops
-use Rattle.command_ends.specs.{Endings.status_of, Flushes.FlushesAtEnd, Statuses.fault_line}
+use Rattle.command_ends.specs.{Endings.status_of, Flushes.FlushesAtEnd, Reasons.untold}
+use Rattle.command_ends.specs.Statuses.{fault_line}
 use Rattle.command_ends.specs.declared.status.Status.{Status}
 use Rattle.command_ends.specs.declared.status.Status.TheVariants.{Done, WriteFault, Unclean}
 use Rattle.tick_drive.specs.declared.end.End.{End, TheVariants.Whole}
-use Rattle.tick_drive.specs.declared.end.End.TheVariants.{Refused, TooLong, ReadFault, Stopped}
+use Rattle.tick_drive.specs.declared.end.End.TheVariants.{Stopped}
 
 -- If a sink isn't flushed by some calls, and is flushed by the next ones, it is flushed by all of
 -- them.
@@ -55,7 +56,7 @@ module _ {O L : Type 0} (o : Sink O) (l : Sink L) where
   -- `Unclean` and `WriteFault` have no fault line.
   pub flushes_after : (out0 out1 : O) (log0 log1 log2 : L) (status : Status)
       → FlushesAtEnd o l out0 out1 log0 log1 status
-      → (fault_line status ≡ [] → log2 ≡ log1) → IsNotFlushed l log1 log2
+      → (fault_line untold status ≡ [] → log2 ≡ log1) → IsNotFlushed l log1 log2
       → FlushesAtEnd o l out0 out1 log0 log2 status
   flushes_after out0 out1 log0 log1 log2 Done h same not_flushed =
       subst (λ log. FlushesAtEnd o l out0 out1 log0 log Done) (sym (same refl)) h

@@ -1,6 +1,6 @@
 -- The fault line that follows what a command has written to the log, and the sinks' counts with it.
 use Rattle.command_ends.specs.Causes.{SinkCause, GotLine, LogsLine}
-use Rattle.command_ends.specs.{Statuses.fault_line, declared.status.Status.Status}
+use Rattle.command_ends.specs.{Reasons.untold, Statuses.fault_line, declared.status.Status.Status}
 use Rattle.command_ends.specs.declared.status.Status.TheVariants.{Done, WriteFault, Unclean}
 use Rattle.std.proofs.Common.{◌≡◌, ◌∙◌, ℕ, ◌≤◌, List, [], ◌∷◌, Option, inl, inr, refl, sym, subst, arith}
 use Rattle.yasir_io.specs.Causes.{Rose}
@@ -23,7 +23,7 @@ lines-from before now a b c (x ∷ line) le logs = line-from before now a b c (x
 -- What holds of the fault line, given the log's faults since the line was begun, also holds given
 -- those since the command began.
 module _ (out0 out1 before mid after : ℕ) (held_before held_now : Option (List ℕ)) where
-  pub logs-from : (status : Status) (line : List ℕ) → (fault_line status ≡ [] → line ≡ [])
+  pub logs-from : (status : Status) (line : List ℕ) → (fault_line untold status ≡ [] → line ≡ [])
       → SinkCause out0 out1 before mid status → LogsLine held_before held_now mid after line
       → LogsLine held_before held_now before after line
   logs-from Done line none sinks logs =
@@ -40,7 +40,7 @@ module _ (out0 out1 before mid after : ℕ) (held_before held_now : Option (List
 -- was written or failed.
 pub sinks_after : (out_before out_now log_before log_mid log_now : ℕ) (status : Status)
     → SinkCause out_before out_now log_before log_mid status → log_mid ≤ log_now
-    → (fault_line status ≡ [] → log_now ≡ log_mid)
+    → (fault_line untold status ≡ [] → log_now ≡ log_mid)
     → SinkCause out_before out_now log_before log_now status
 sinks_after out_before out_now log_before log_mid log_now Done h rises same = (h.0, same refl ∙ h.1)
 sinks_after out_before out_now log_before log_mid log_now (Unclean verdict) h rises same =

@@ -1,6 +1,7 @@
 -- What holds of a command also holds of the run, which writes its fault line behind it.
 use Rattle.command_ends.proofs.Logging.{logs-from}
-use Rattle.command_ends.specs.{Causes.SinkCause, Outside.Outside, Statuses.fault_line}
+use Rattle.command_ends.specs.{Causes.SinkCause, Outside.Outside, Reasons.untold}
+use Rattle.command_ends.specs.Statuses.{fault_line}
 use Rattle.command_ends.specs.Programs.{AsksFor, Runs, EndsLog, IsCalm}
 use Rattle.command_ends.specs.declared.status.Status.{Status}
 use Rattle.std.proofs.Common.{◌≡◌, ℕ, ◌≤◌, List, [], Option, Some, None, refl, sym, ap, ◌∙◌, arith}
@@ -31,7 +32,7 @@ module _ {C K S O L D T : Type 0} (l : Sink L) (line : T → List ℕ)
     (Does : Option C → Outside K S O L D → Outside K S O L D → T → Type 0)
     (Flushes : Option C → L → L → T → Type 0) (asked : Option C) (before after : Outside K S O L D)
     (noted : L) (end : T) (out0 out1 : ℕ) (status : Status)
-    (none : fault_line status ≡ [] → line end ≡ []) where
+    (none : fault_line untold status ≡ [] → line end ≡ []) where
   pub runs_of : Does asked before (record after { log = noted }) end
       → SinkCause out0 out1 (l.faults before.log) (l.faults noted) status
       → EndsLog l noted after.log (line end) → Flushes asked noted after.log end

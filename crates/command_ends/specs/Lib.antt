@@ -1,6 +1,7 @@
 pub mod Words
 pub mod Links
 pub mod KeyText
+pub mod Reasons
 pub mod Statuses
 pub mod Causes
 pub mod Endings

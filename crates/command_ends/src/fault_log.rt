@@ -1,12 +1,15 @@
 //! The fault line of each status, and its way to the log.
 ghost use Rattle.std.specs.Prelude.{◌≡◌, ◌≤◌, ◌++◌, length, codes};
 ghost use Rattle.command_ends.specs.Statuses.{fault_line, fault_word, unit_word};
+ghost use Rattle.command_ends.specs.Statuses.{read_fault_line, journal_fault_line};
+ghost use Rattle.command_ends.specs.Reasons.{untold};
 ghost use Rattle.command_ends.specs.Programs.{EndsLog};
 
-use crate::Status;
+use crate::reasons::refused_line;
 use crate::text::{Line, push_decimal};
+use crate::{Reasons, Status};
 use tick_drive::TooMuch;
-use yasir_io::{Sink, SlotBytes, write_all};
+use yasir_io::{Reason, Sink, SlotBytes, write_all};
 use yasir_ticks::{BadTicks, TickFault, push_digits};
 
 fn fault_word(why: TickFault) -> &'static [u8]
@@ -34,7 +37,7 @@ fn unit_word(what: TooMuch) -> &'static [u8]
 }
 
 fn bad_ticks_line(bad: &BadTicks) -> Line
-    ensures { result.items ≡ fault_line (Status.BadTicks bad.now) }
+    ensures { result.items ≡ fault_line untold (Status.BadTicks bad.now) }
 {
     let mut line = Line::new();
     line.try_extend_from_slice(b"fault: line ").unwrap();
@@ -46,7 +49,7 @@ fn bad_ticks_line(bad: &BadTicks) -> Line
 }
 
 fn too_long_line(what: TooMuch, count: u64) -> Line
-    ensures { result.items ≡ fault_line (Status.TooLong what count) }
+    ensures { result.items ≡ fault_line untold (Status.TooLong what count) }
 {
     let mut line = Line::new();
     line.try_extend_from_slice(b"fault: too long ").unwrap();
@@ -57,7 +60,7 @@ fn too_long_line(what: TooMuch, count: u64) -> Line
 }
 
 fn has_journal_line(floor: u64) -> Line
-    ensures { result.items ≡ fault_line (Status.HasJournal floor) }
+    ensures { result.items ≡ fault_line untold (Status.HasJournal floor) }
 {
     let mut line = Line::new();
     line.try_extend_from_slice(b"fault: journal stands at ")
@@ -68,7 +71,7 @@ fn has_journal_line(floor: u64) -> Line
 }
 
 fn bad_key_line(place: u32) -> Line
-    ensures { result.items ≡ fault_line (Status.BadKey place) }
+    ensures { result.items ≡ fault_line untold (Status.BadKey place) }
 {
     let mut line = Line::new();
     line.try_extend_from_slice(b"fault: key at ").unwrap();
@@ -78,7 +81,7 @@ fn bad_key_line(place: u32) -> Line
 }
 
 fn bad_journal_line(a: &SlotBytes, b: &SlotBytes) -> Line
-    ensures { result.items ≡ fault_line (Status.BadJournal a.now b.now) }
+    ensures { result.items ≡ fault_line untold (Status.BadJournal a.now b.now) }
 {
     let mut line = Line::new();
     line.try_extend_from_slice(b"fault: bad journal ").unwrap();
@@ -90,7 +93,7 @@ fn bad_journal_line(a: &SlotBytes, b: &SlotBytes) -> Line
 }
 
 fn wrong_link_line(slot: &SlotBytes) -> Line
-    ensures { result.items ≡ fault_line (Status.WrongLink slot.now) }
+    ensures { result.items ≡ fault_line untold (Status.WrongLink slot.now) }
 {
     let mut line = Line::new();
     line.try_extend_from_slice(b"fault: wrong link ").unwrap();
@@ -109,15 +112,38 @@ fn fixed_line(text: &[u8]) -> Line
     line
 }
 
-/// Returns the fault line of a status, with its LF. It is empty for the statuses that have none.
-pub fn fault_line(status: &Status) -> Line
-    ensures { result.items ≡ fault_line status.now }
+// Returns the line of a read that failed.
+fn read_fault_line(key: Option<Reason>, input: Option<Reason>) -> Line
+    ensures { result.items ≡ read_fault_line key input }
+{
+    match (key, input) {
+        (Some(why), _) => refused_line(b"fault: read key", b"not ready", why),
+        (None, Some(why)) => refused_line(b"fault: read input", b"not ready", why),
+        (None, None) => fixed_line(b"fault: read\n"),
+    }
+}
+
+// Returns the line of a call on the journal that failed.
+fn journal_fault_line(journal: Option<Reason>) -> Line
+    ensures { result.items ≡ journal_fault_line journal }
+{
+    match journal {
+        Some(why) => refused_line(b"fault: journal", b"held by another run", why),
+        None => fixed_line(b"fault: journal\n"),
+    }
+}
+
+/// Returns the fault line of a status, with its LF. It is empty for the statuses that have none. A
+/// read or a call on the journal that failed is said with its reason, if one is told.
+pub fn fault_line(reasons: &Reasons, status: &Status) -> Line
+    /// It is the line of the status, with the reasons that are told.
+    ensures { result.items ≡ fault_line reasons.now status.now }
 {
     match status {
         Status::Done | Status::WriteFault | Status::Unclean(_) => Line::new(),
         Status::Usage => fixed_line(b"fault: usage\n"),
-        Status::ReadFault => fixed_line(b"fault: read\n"),
-        Status::JournalFault => fixed_line(b"fault: journal\n"),
+        Status::ReadFault => read_fault_line(reasons.key, reasons.input),
+        Status::JournalFault => journal_fault_line(reasons.journal),
         Status::NoMemory => fixed_line(b"fault: memory\n"),
         Status::BadTicks(bad) => bad_ticks_line(bad),
         Status::TooLong { what, count } => too_long_line(*what, *count),
@@ -141,15 +167,4 @@ pub fn write_fault_line<L: Sink>(log: &mut L, line: &[u8])
         return;
     }
     let _ = write_all(log, line);
-}
-
-/// Writes the fault line of a status to the log. If this write fails, the status stays the same.
-pub fn write_fault<L: Sink>(log: &mut L, status: &Status)
-    /// The log has got the fault line of the status, if it has one, or a front of it if this write
-    /// failed.
-    ensures ends { EndsLog L.Sink log.old log.new (fault_line status.now) }
-    /// No flush of the log is counted.
-    ensures flushes { L.flushes log.new ≡ L.flushes log.old }
-{
-    write_fault_line(log, fault_line(status).as_slice());
 }

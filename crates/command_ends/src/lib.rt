@@ -22,7 +22,8 @@
 //! A command that prints one line, and the end of its run:
 //!
 //!     let status = print_text(b"link_replay 0.7.0\n", &mut out, &mut log);
-//!     write_fault(&mut log, &status);
+//!     let line = fault_line(&Reasons::of(&key, &input, &disk), &status);
+//!     write_fault_line(&mut log, line.as_slice());
 //!     ExitCode::from(status.exit_status())
 #![tactic(auto)]
 
@@ -33,6 +34,7 @@ mod frame_line;
 mod given;
 mod key_text;
 mod link;
+mod reasons;
 mod status;
 mod text;
 mod waiting;
@@ -41,11 +43,12 @@ mod word_tests;
 
 pub use ending::{flush_both, print_text, status_of};
 pub use ends::Ends;
-pub use fault_log::{fault_line, write_fault, write_fault_line};
+pub use fault_log::{fault_line, write_fault_line};
 pub use frame_line::{LINE_ROOM, push_read_line, write_frame_line};
 pub use given::{NOT_GIVEN, take_places, words_after_name};
 pub use key_text::{Key, KeyError, read_key};
 pub use link::{Profile, Proto, Usage, link_of, link_word, read_dir, read_link, read_proto};
+pub use reasons::Reasons;
 pub use status::{Status, Unclean};
 pub use text::{Line, push_decimal};
 pub use waiting::{append_decimal, append_digits};
