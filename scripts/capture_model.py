@@ -338,6 +338,9 @@ def give_vcd(lines, rate):
             "$enddefinitions $end\n" + quiet + changes + end).encode()
 
 
+# What is said of words that fit no command, by their first word.
+USAGES = {"take": "usage: line_capture take FORM RATE WAY [frames]", "give": "usage: line_capture give FORM RATE",
+          "help": "usage: line_capture help", "version": "usage: line_capture version"}
 WRITERS = {"pcap": give_pcap, "text": give_text, "vcd": give_vcd}
 
 
@@ -362,7 +365,7 @@ def main(words):
     try:
         out, why = run(words, sys.stdin.buffer.read())
     except Usage:
-        print("fault: usage", file=sys.stderr)
+        print("fault: usage\n%s" % USAGES.get(words[0] if words else "", "commands: take give help version"), file=sys.stderr)
         return 2
     sys.stdout.buffer.write(out)
     if why:

@@ -50,6 +50,7 @@ CHECKS = [
     Check("try_check", ("program", "line_capture"), *same("PROGRAM")),
     Check("closed_streams", ("program",), *same("PROGRAM")),
     Check("init_over", ("program",), *same("PROGRAM")),
+    Check("fault_lines", ("program",), *same("PROGRAM")),
     Check("live_pipe", ("program",), *same("PROGRAM")),
     Check("two_runs", ("program",), ["PROGRAM", "2"], ["PROGRAM", "10"], ["PROGRAM", "60"]),
     Check("taken_over", ("program", "cc"), *same("PROGRAM")),

@@ -17,7 +17,7 @@ from killed import KEY, slot_of
 
 NEW = bytes(32) + slot_of(0) + bytes(24)
 REQUEST = b"+01030000000ac5cd\n-40\n"
-FAULTS = {5: b"fault: read\n", 11: b"fault: journal stands at 0\n"}
+FAULTS = {5: b"fault: read input: is a folder\n", 11: b"fault: journal stands at 0\n"}
 
 # The words, the journal before the run (None if it is missing), and the streams that the command needs.
 COMMANDS = [

@@ -14,7 +14,7 @@ from killed import KEY, old_slot_of, slot_of
 OLD = bytes(32)
 ZERO, SEVEN, OTHER = slot_of(0), slot_of(7), slot_of(9, ("dnp24", "ba"))
 OLD_SEVEN, OLD_TORN, TORN = old_slot_of(7), b"\x11" * 16, b"\x11" * 24
-STANDS = "fault: journal stands at %d\n"
+STANDS, NO_JOURNAL = "fault: journal stands at %d\n", "fault: journal: not empty\n"
 
 # What the file is, its bytes (None if it is missing), the status, the log, and its bytes after the run (None if as before).
 CASES = [
@@ -26,15 +26,15 @@ CASES = [
     ("a new journal", OLD + ZERO + bytes(24), 11, STANDS % 0, None),
     ("a journal, one slot torn", OLD + TORN + SEVEN, 11, STANDS % 7, None),
     ("a journal, the other slot torn", OLD + SEVEN + TORN, 11, STANDS % 7, None),
-    ("a journal, both slots torn", OLD + TORN + TORN, 7, "fault: journal\n", None),
+    ("a journal, both slots torn", OLD + TORN + TORN, 7, NO_JOURNAL, None),
     ("a journal of another link", OLD + SEVEN + OTHER, 11, STANDS % 9, None),
     ("an old journal", OLD_SEVEN + bytes(16), 11, STANDS % 7, None),
-    ("an old journal, both slots torn", OLD_TORN + OLD_TORN, 7, "fault: journal\n", None),
-    ("a journal cut off in slot A", OLD + ZERO[:15], 7, "fault: journal\n", None),
-    ("one byte that isn't 00 at the end of slot B", bytes(79) + b"\x01", 7, "fault: journal\n", None),
-    ("a key", KEY.encode(), 7, "fault: journal\n", None),
-    ("a recording", b"+01030000000ac5cd\n-40\n", 7, "fault: journal\n", None),
-    ("one byte", b"\n", 7, "fault: journal\n", None),
+    ("an old journal, both slots torn", OLD_TORN + OLD_TORN, 7, NO_JOURNAL, None),
+    ("a journal cut off in slot A", OLD + ZERO[:15], 7, NO_JOURNAL, None),
+    ("one byte that isn't 00 at the end of slot B", bytes(79) + b"\x01", 7, NO_JOURNAL, None),
+    ("a key", KEY.encode(), 7, NO_JOURNAL, None),
+    ("a recording", b"+01030000000ac5cd\n-40\n", 7, NO_JOURNAL, None),
+    ("one byte", b"\n", 7, NO_JOURNAL, None),
 ]
 
 

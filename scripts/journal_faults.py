@@ -118,7 +118,7 @@ def failed(tried, program, command, text, content, fault):
     if program == tried.filter:
         tried.see(used == list(range(7, 7 + max(0, commits - 1))), "%s: %d commits, noted %s" % (what, commits, used))
     elif program == tried.program:
-        tried.see((run.out, run.log) == (b"", b"fault: journal\n"), "%s: wrote %r" % (what, run[1:3]))
+        tried.see((run.out, run.log) == (b"", b"fault: journal: error 5 of the system\n"), "%s: wrote %r" % (what, run[1:3]))
     again = tried.run(command, text, program)
     used += numbers(again.log)
     tried.see(again.status == 0 and used == sorted(set(used)) and used[-1:] <= [floor_of(tried.journal)],

@@ -19,7 +19,7 @@ PROGRAM = built.program(sys.argv, 1)
 SECONDS = float(sys.argv[2]) if len(sys.argv) > 2 else 10
 RACERS, FRAMES = 8, 20
 FRAME = b"+01030000000ac5cd\n-40\n"
-REFUSED = (7, b"", b"fault: journal\n")
+REFUSED = (7, b"", b"fault: journal: held by another run\n")
 
 
 class Journal:

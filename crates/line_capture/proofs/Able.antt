@@ -161,7 +161,7 @@ not_ended marks file left (drive_ends.TooLong what count) outcome readable befor
 not_ended marks file left drive_ends.ReadFault outcome readable before is = not_read is
 not_ended marks file left (drive_ends.Stopped stop) outcome readable before is = no_room_left is
 
-printed : (text : List ℕ) (before now : Option (List ℕ)) (status : Status) (outcome : Outcome)
+pub printed : (text : List ℕ) (before now : Option (List ℕ)) (status : Status) (outcome : Outcome)
     → PrintsText text before now status → outcome ≡ Ended status → EndsFree outcome
 printed text before now statuses.Done outcome prints is = done is
 printed text before now statuses.WriteFault outcome prints is = not_written is

@@ -6,7 +6,7 @@ use Rattle.line_stamps.specs.declared.capture.Way.TheVariants as way
 use Rattle.command_ends.specs.declared.status.Status.{Status}
 use Rattle.command_ends.specs.declared.status.Status.TheVariants as statuses
 use Rattle.line_capture.specs.{Captures.Collects, Formats.Format, Inputs.Told, Outcomes.status_in}
-use Rattle.line_capture.specs.Outcomes.{capture_fault_line}
+use Rattle.line_capture.specs.UsageLines.{capture_fault_text}
 use Rattle.line_capture.specs.Placed.{CountsOverlaps}
 use Rattle.line_capture.specs.Takes.{CaptureHeld, stop_outcome, read_outcome, or_else, outcome_of}
 use Rattle.line_capture.specs.Takes.{WritesTaken, TakesRead, TakesCapture}
@@ -17,7 +17,8 @@ use Rattle.line_capture.specs.Takes.TakesCapture.{no_memory as no_room, read as 
 use Rattle.line_capture.specs.Takes.{TakesRead.no_memory, TakesRead.kept, WritesTaken.written}
 use Rattle.line_capture.specs.{Takes.WritesTaken.failed, declared.collect.CaptureEnd.CaptureEnd}
 use Rattle.line_stamps.specs.declared.{capture.CaptureByte.CaptureByte, timing.Timing.Timing}
-use Rattle.command_ends.specs.{Causes.SinkCause, Statuses.fault_line}
+use Rattle.command_ends.specs.{Causes.SinkCause, Reasons.untold, Statuses.fault_line}
+use Rattle.command_ends.specs.declared.reasons.Reasons.{Reasons}
 use Rattle.line_capture.specs.declared.collect.CaptureEnd.TheVariants as ends
 use Rattle.line_capture.specs.declared.{collect.Kept.Kept, input.ReadEnd.ReadEnd}
 use Rattle.line_capture.specs.declared.input.ReadEnd.TheVariants.{Whole, Failed, TooLong}
@@ -68,11 +69,15 @@ sinks_then out0 out1 out2 log0 log1 log2 status out log h =
     subst (λ n. SinkCause n out2 log0 log2 status) out
     (subst (λ n. SinkCause out1 out2 n log2 status) log h)
 
--- An outcome has a fault line if the status with the same causes has one.
-pub no_line : (outcome : Outcome) → fault_line (status_in outcome) ≡ []
-    → capture_fault_line outcome ≡ []
-no_line (Ended status) none = none
-no_line outcome none = cc
+-- An outcome has a text that is written last only if the status with the same causes has a fault
+-- line.
+pub no_text : (words : List (List ℕ)) (told : Reasons) (outcome : Outcome)
+    → fault_line untold (status_in outcome) ≡ [] → capture_fault_text words told outcome ≡ []
+no_text words told (Ended statuses.Done) none = none
+no_text words told (Ended statuses.WriteFault) none = none
+no_text words told (Ended (statuses.Unclean verdict)) none = none
+no_text words told (Ended status) none = cc
+no_text words told outcome none = cc
 
 module _ (taking : Taking) (k : Kept) (read : ReadEnd) (end : CaptureEnd) (before now : CaptureHeld)
     (a b : LineEnd)

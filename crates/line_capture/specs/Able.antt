@@ -17,7 +17,7 @@ use Rattle.line_capture.specs.declared.outcome.Outcome.{Outcome}
 use Rattle.line_capture.specs.declared.outcome.Outcome.TheVariants.{Ended}
 use Rattle.line_capture.specs.declared.take.Taking.{Taking}
 use Rattle.line_capture.specs.declared.words.Command.{Command}
-use Rattle.line_capture.specs.declared.words.Command.TheVariants.{Take, Give}
+use Rattle.line_capture.specs.declared.words.Command.TheVariants.{Take, Give, Help, Version}
 use Rattle.line_capture.specs.declared.words.GiveForm.{GiveForm}
 
 -- Holds if each of these bytes is placed, given where the byte before them is, if there is one.
@@ -65,6 +65,8 @@ CaptureMayDo None input = ⊥
 CaptureMayDo (Some (Take form rate ways spacing)) input =
     IsTakeable (format_of form) (record { rate = rate; ways = ways; spacing = spacing }) input
 CaptureMayDo (Some (Give form rate)) input = IsGivable form input
+CaptureMayDo (Some Help) input = Unit {0}
+CaptureMayDo (Some Version) input = Unit {0}
 
 -- Holds if the run is done, or had no memory.
 abbrev pub CaptureEndsWell : Outcome → Type 0

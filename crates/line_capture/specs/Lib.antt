@@ -10,6 +10,8 @@ pub mod RecordWalk
 pub mod Gives
 pub mod Able
 pub mod TakenAgain
+pub mod About
+pub mod UsageLines
 pub mod Programs
 pub mod Endings
 pub mod Collecting

@@ -10,6 +10,7 @@ use Rattle.capture_text.specs.declared.row_fault.RowFault.TheVariants as rows
 use Rattle.capture_text.specs.declared.fault.TextFault.{TextFault}
 use Rattle.capture_text.specs.declared.fault.TextFault.TheVariants as text
 use Rattle.command_ends.specs.Statuses.{exit_status_of as status_exit, fault_line as status_line}
+use Rattle.command_ends.specs.declared.reasons.Reasons.{Reasons}
 use Rattle.command_ends.specs.declared.status.Status.{Status}
 use Rattle.command_ends.specs.declared.status.Status.TheVariants.{Usage}
 use Rattle.line_capture.specs.declared.bad_capture.BadCapture.TheVariants.{Text, Pcap, Rows, ByteError}
@@ -62,16 +63,17 @@ abbrev pub counted_line : List ℕ → ℕ → List ℕ → List ℕ
 counted_line what count word =
     codes "fault: " ++ what ++ decimal count ++ codes " " ++ word ++ codes "\n"
 
--- the line that the log gets last, which is empty after Done and after a write that failed
-abbrev pub capture_fault_line : Outcome → List ℕ
-capture_fault_line (Ended status) = status_line status
-capture_fault_line (BadCapture (Text bad)) = counted_line (codes "line ") bad.line (text_word bad.why)
-capture_fault_line (BadCapture (Pcap bad)) = counted_line (codes "byte ") bad.offset (pcap_word bad.why)
-capture_fault_line (BadCapture (Rows bad)) = counted_line (codes "line ") bad.line (rows_word bad.why)
-capture_fault_line (BadCapture (ByteError offset)) = counted_line (codes "byte ") offset (codes "error")
-capture_fault_line (outcomes.Unplaced A place why) =
+-- The line that the log gets last, by the reasons that the run's objects tell. It is empty after Done
+-- and after a write that failed.
+abbrev pub capture_fault_line : Reasons → Outcome → List ℕ
+capture_fault_line told (Ended status) = status_line told status
+capture_fault_line told (BadCapture (Text bad)) = counted_line (codes "line ") bad.line (text_word bad.why)
+capture_fault_line told (BadCapture (Pcap bad)) = counted_line (codes "byte ") bad.offset (pcap_word bad.why)
+capture_fault_line told (BadCapture (Rows bad)) = counted_line (codes "line ") bad.line (rows_word bad.why)
+capture_fault_line told (BadCapture (ByteError offset)) = counted_line (codes "byte ") offset (codes "error")
+capture_fault_line told (outcomes.Unplaced A place why) =
     counted_line (codes "way a byte ") place (unplaced_word why)
-capture_fault_line (outcomes.Unplaced B place why) =
+capture_fault_line told (outcomes.Unplaced B place why) =
     counted_line (codes "way b byte ") place (unplaced_word why)
 
 -- The status of `link_replay` that has the same causes as an outcome: the outcome's own status if

@@ -2,6 +2,7 @@
 use Rattle.std.specs.Prelude.{◌≡◌, ℕ, ◌≤◌, List, Option, Some, None}
 use Rattle.yasir_io.specs.Causes.{Rose}
 use Rattle.yasir_io.specs.Flushed.{IsNotFlushed}
+use Rattle.yasir_io.specs.declared.reason.Reason.{Reason}
 use Rattle.yasir_io.specs.declared.source.Source.{Ghosts as Source}
 use Rattle.yasir_io.specs.declared.sink.Sink.{Ghosts as Sink}
 use Rattle.command_ends.specs.Causes.{SinkCause}
@@ -13,13 +14,16 @@ use Rattle.line_capture.specs.Formats.{format_of}
 use Rattle.line_capture.specs.Gives.{GivesCapture}
 use Rattle.line_capture.specs.Able.{CaptureMayDo, CaptureEndsWell}
 use Rattle.line_capture.specs.Inputs.{told}
-use Rattle.line_capture.specs.Outcomes.{capture_fault_line, status_in}
+use Rattle.line_capture.specs.Outcomes.{status_in}
+use Rattle.line_capture.specs.UsageLines.{of_input, capture_fault_text}
+use Rattle.line_capture.specs.About.{PrintsAlone, capture_version}
+use Rattle.line_capture.specs.declared.about.TheConstants.{HELP_PAGE}
 use Rattle.line_capture.specs.Takes.{TakesCapture, held}
 use Rattle.line_capture.specs.Words.{IsCaptureCommand}
 use Rattle.line_capture.specs.declared.outcome.Outcome.{Outcome}
 use Rattle.line_capture.specs.declared.outcome.Outcome.TheVariants.{Ended}
 use Rattle.line_capture.specs.declared.words.Command.{Command}
-use Rattle.line_capture.specs.declared.words.Command.TheVariants.{Take, Give}
+use Rattle.line_capture.specs.declared.words.Command.TheVariants.{Take, Give, Help, Version}
 
 -- What a run is handed: its input, and the two sinks. It has neither a key nor a journal.
 abbrev pub CaptureOutside : Type 0 → Type 0 → Type 0 → Type 0
@@ -39,6 +43,12 @@ module _ {S O L : Type 0} (s : Source S) (o : Sink O) (l : Sink L) where
       (told (s.left after.input) (s.faults after.input))
       (held (o.held before.out) (l.held before.log)) (held (o.held after.out) (l.held after.log))
       outcome
+  CaptureDoes (Some Help) before after outcome = (after.input ≡ before.input)
+      × PrintsAlone HELP_PAGE (held (o.held before.out) (l.held before.log))
+      (held (o.held after.out) (l.held after.log)) outcome
+  CaptureDoes (Some Version) before after outcome = (after.input ≡ before.input)
+      × PrintsAlone capture_version (held (o.held before.out) (l.held before.log))
+      (held (o.held after.out) (l.held after.log)) outcome
   CaptureDoes (Some (Give form rate)) before after outcome =
       GivesCapture form rate (told (s.left before.input) (s.faults before.input))
       (told (s.left after.input) (s.faults after.input))
@@ -50,12 +60,12 @@ module _ {S O L : Type 0} (s : Source S) (o : Sink O) (l : Sink L) where
   CaptureIsCalm = IsCalm (λ none. 0) s.faults o.faults l.faults (λ none. 0)
 
   -- Holds if what the words ask for was done, and then the fault line was added to the log, if the
-  -- outcome has one.
-  pub record CaptureRuns (words : List (List ℕ)) (before after : CaptureOutside S O L)
+  -- outcome has one. `tells` is the reason that the input tells.
+  pub record CaptureRuns (tells : S → Option Reason) (words : List (List ℕ)) (before after : CaptureOutside S O L)
       (outcome : Outcome) : Type 0 where
     pub asked : Option Command
     pub asks : AsksFor IsCaptureCommand words asked
-    pub runs : Runs l capture_fault_line CaptureDoes
+    pub runs : Runs l (capture_fault_text words (of_input (tells after.input))) CaptureDoes
         (λ asked noted now outcome. IsNotFlushed l noted now) asked before after outcome
     -- if the input is right, the run is done, unless something fails outside or there is no memory
     pub able : CaptureMayDo asked (s.left before.input) → CaptureIsCalm before after

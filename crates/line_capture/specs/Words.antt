@@ -1,10 +1,10 @@
 -- The words of the program's commands.
-use Rattle.std.specs.Prelude.{◌≡◌, ℕ, List, [], ◌∷◌, codes}
+use Rattle.std.specs.Prelude.{◌≡◌, ◌⊎◌, ℕ, List, [], ◌∷◌, codes}
 use Rattle.line_stamps.specs.RateWords.{rate_word}
 use Rattle.line_stamps.specs.declared.timing.Spacing.{Spacing}
 use Rattle.line_stamps.specs.declared.timing.Spacing.TheVariants.{ByTime, ByRecord}
 use Rattle.line_capture.specs.declared.words.Command.{Command}
-use Rattle.line_capture.specs.declared.words.Command.TheVariants.{Take, Give}
+use Rattle.line_capture.specs.declared.words.Command.TheVariants.{Take, Give, Help, Version}
 use Rattle.line_capture.specs.declared.words.GiveForm.{GiveForm}
 use Rattle.line_capture.specs.declared.words.GiveForm.TheVariants as give_forms
 use Rattle.line_capture.specs.declared.words.TakeForm.{TakeForm}
@@ -40,3 +40,6 @@ IsCaptureCommand words (Take form rate ways spacing) = words ≡ codes "take" �
     ∷ rate_word rate ∷ ways_word ways ∷ spacing_words spacing
 IsCaptureCommand words (Give form rate) =
     words ≡ codes "give" ∷ give_form_word form ∷ rate_word rate ∷ []
+IsCaptureCommand words Help = (words ≡ codes "help" ∷ []) ⊎ (words ≡ codes "--help" ∷ [])
+    ⊎ (words ≡ codes "-h" ∷ [])
+IsCaptureCommand words Version = (words ≡ codes "version" ∷ []) ⊎ (words ≡ codes "--version" ∷ [])

@@ -4,6 +4,7 @@
 //!     line_capture give vcd 9600x11 < line.ticks > wires.vcd
 #![tactic(auto)]
 
+mod about;
 mod bad_capture;
 mod collect;
 mod give;
@@ -17,6 +18,7 @@ mod records;
 mod take;
 #[cfg(test)]
 mod tests;
+mod usage;
 mod words;
 
 pub use bad_capture::BadCapture;

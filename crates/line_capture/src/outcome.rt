@@ -2,11 +2,12 @@
 ghost use Rattle.std.specs.Prelude.{◌≡◌, ◌≤◌, ◌++◌, length, codes, decimal};
 ghost use Rattle.line_capture.specs.Outcomes.{capture_exit_status, capture_fault_line, text_word, pcap_word, rows_word};
 ghost use Rattle.line_capture.specs.Outcomes.{unplaced_word};
+ghost use Rattle.command_ends.specs.Reasons.{untold};
 
 use crate::bad_capture::BadCapture;
 use capture_pcap::PcapFault;
 use capture_text::{RowFault, TextFault};
-use command_ends::{Line, Status, fault_line, push_decimal};
+use command_ends::{Line, Reasons, Status, fault_line, push_decimal};
 use line_stamps::{Unplaced, Way};
 
 /// How a run of the program ended.
@@ -32,12 +33,13 @@ impl Outcome {
         }
     }
 
-    /// Returns the fault line, with its LF. It is empty if the outcome has none.
-    pub fn fault_line(&self) -> Line
-        ensures { result.items ≡ capture_fault_line self.now }
+    /// Returns the fault line, with its LF. It is empty if the outcome has none. A read that failed
+    /// is said with its reason, if one is told.
+    pub fn fault_line(&self, reasons: &Reasons) -> Line
+        ensures { result.items ≡ capture_fault_line reasons.now self.now }
     {
         match self {
-            Outcome::Ended(status) => fault_line(status),
+            Outcome::Ended(status) => fault_line(reasons, status),
             Outcome::BadCapture(bad) => bad_capture_line(bad),
             Outcome::Unplaced { way, place, why } => unplaced_line(*way, *place, *why),
         }
@@ -119,7 +121,7 @@ fn counted_line(what: &[u8], count: u64, word: &[u8]) -> Line
 }
 
 fn bad_capture_line(bad: &BadCapture) -> Line
-    ensures { result.items ≡ capture_fault_line (Outcome.BadCapture bad.now) }
+    ensures { result.items ≡ capture_fault_line untold (Outcome.BadCapture bad.now) }
 {
     match bad {
         BadCapture::Text(bad) => counted_line(b"line ", bad.line, text_word(bad.why)),
@@ -130,7 +132,7 @@ fn bad_capture_line(bad: &BadCapture) -> Line
 }
 
 fn unplaced_line(way: Way, place: u64, why: Unplaced) -> Line
-    ensures { result.items ≡ capture_fault_line (Outcome.Unplaced way place why) }
+    ensures { result.items ≡ capture_fault_line untold (Outcome.Unplaced way place why) }
 {
     match way {
         Way::A => counted_line(b"way a byte ", place, unplaced_word(why)),

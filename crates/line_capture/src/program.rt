@@ -16,17 +16,19 @@ ghost use Rattle.line_capture.specs.Takes.{TakesCapture, held};
 ghost use Rattle.line_capture.specs.Words.{IsCaptureCommand};
 ghost use Rattle.line_capture.specs.declared.outcome.Outcome.{Outcome};
 
+use crate::about::{HELP_PAGE, VERSION_LINE, print_alone};
 use crate::give::{Giving, give};
 use crate::outcome::Outcome;
 use crate::take::{Taking, take};
+use crate::usage::fault_text;
 use crate::words::{Command, TakeForm, Usage, read_words};
 use capture_pcap::PcapReader;
 use capture_text::{Logic2Reader, SigrokReader, TextReader};
-use command_ends::{NOT_GIVEN, Status, words_after_name, write_fault_line};
+use command_ends::{NOT_GIVEN, Reasons, Status, words_after_name, write_fault_line};
 use std::alloc::{AllocError, Global};
 use std::env::Args;
 use std::io;
-use yasir_io::{Sink, Source};
+use yasir_io::{Sink, Source, TellsReason};
 
 // Takes a capture of this form.
 fn take_form<S: Source, O: Sink, L: Sink>(
@@ -92,6 +94,8 @@ fn answer<S: Source, O: Sink, L: Sink>(
             take_form(alloc, form, taking, input, out, log)
         }
         Some(Command::Give { form, rate }) => give(alloc, Giving { form, rate }, input, out, log),
+        Some(Command::Help) => print_alone(&HELP_PAGE, out, log),
+        Some(Command::Version) => print_alone(&VERSION_LINE, out, log),
     }
 }
 
@@ -107,7 +111,7 @@ fn asked_by(words: &[String]) -> Option<Command>
 
 /// The program: reads its words, those after the program's name, and does what they ask for. Last
 /// of all it writes the fault line to the log, if there is one.
-pub fn run<S: Source, O: Sink, L: Sink>(
+pub fn run<S: Source + TellsReason, O: Sink, L: Sink>(
     alloc: Global,
     words: &[String],
     input: &mut S,
@@ -119,9 +123,9 @@ pub fn run<S: Source, O: Sink, L: Sink>(
         ↔ AsksFor IsCaptureCommand (map string_bytes words.now) None }
 
     /// What was read and written is what the command's record says of the outcome, and after it
-    /// comes the fault line. If the input is right, the outcome is done, unless something fails
+    /// comes the fault line, with the reason that the input tells, or with the words that fit. If the input is right, the outcome is done, unless something fails
     /// outside or there is no memory.
-    ensures runs { CaptureRuns S.Source O.Sink L.Sink (map string_bytes words.now)
+    ensures runs { CaptureRuns S.Source O.Sink L.Sink S.told_reason (map string_bytes words.now)
         (capture_outside input.old out.old log.old) (capture_outside input.new out.new log.new) result }
 
     /// The outcome is a fault of reading or of writing only if a count of such faults rose. If it
@@ -131,13 +135,18 @@ pub fn run<S: Source, O: Sink, L: Sink>(
         (capture_outside input.new out.new log.new) result }
 {
     let outcome = answer(alloc, asked_by(words), input, out, log);
-    write_fault_line(log, outcome.fault_line().as_slice());
+    let reasons = Reasons {
+        key: None,
+        input: input.reason(),
+        journal: None,
+    };
+    write_fault_line(log, fault_text(words, &reasons, &outcome).as_slice());
     outcome
 }
 
 /// Runs the program with the words after the first argument, which is its name. Returns the exit
 /// status.
-pub fn run_over_args<S: Source, O: Sink, L: Sink>(
+pub fn run_over_args<S: Source + TellsReason, O: Sink, L: Sink>(
     alloc: Global,
     args: io::Result<Args>,
     input: &mut S,
@@ -152,7 +161,7 @@ pub fn run_over_args<S: Source, O: Sink, L: Sink>(
 
     /// The exit status is that of the outcome of a run with these words, of which all holds that
     /// `run` promises; or it is that of no memory, and all is as it was.
-    ensures ends { IfOk args (λ given. EndsOverArgs S.Source O.Sink L.Sink (words_after given)
+    ensures ends { IfOk args (λ given. EndsOverArgs S.Source O.Sink L.Sink S.told_reason (words_after given)
         (capture_outside input.old out.old log.old) (capture_outside input.new out.new log.new) result) }
 {
     let Ok(args) = args else {

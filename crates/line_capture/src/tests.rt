@@ -2,6 +2,7 @@
 //! fail at chosen calls. The captures and their ticks are those of `examples/captures/`. The ticks
 //! were written by hand, or by the model in `scripts/capture_model.py`.
 
+use crate::about::HELP_PAGE;
 use crate::*;
 use command_ends::Status;
 use line_stamps::{Unplaced, Way};
@@ -352,29 +353,49 @@ fn tick_text_is_given_as_a_dump(rt: HostRuntime) -> Result<(), Fail> {
     Ok(())
 }
 
+const TAKE: &[u8] = b"fault: usage\nusage: line_capture take FORM RATE WAY [frames]\n";
+
+const GIVE: &[u8] = b"fault: usage\nusage: line_capture give FORM RATE\n";
+
+const COMMANDS: &[u8] = b"fault: usage\ncommands: take give help version\n";
+
+/// Words of no command, and what is said of them.
+const OTHER_WORDS: [(&str, &[u8]); 15] = [
+    ("", COMMANDS),
+    ("takes pcap 9600x11 a", COMMANDS),
+    ("-help", COMMANDS),
+    ("take", TAKE),
+    ("take pcap 9600x11", TAKE),
+    ("take pcap 9600x11 c", TAKE),
+    ("take pcap 299x11 a", TAKE),
+    ("take text 9600x9 a", TAKE),
+    ("take text 9600x11 a frame", TAKE),
+    ("give text 9600x11 a", GIVE),
+    ("give pcap", GIVE),
+    ("give logic2 9600x11", GIVE),
+    ("give pcap 9600x12", GIVE),
+    ("help me", b"fault: usage\nusage: line_capture help\n"),
+    ("version 1", b"fault: usage\nusage: line_capture version\n"),
+];
+
 #[test]
 fn other_words_are_usage(rt: HostRuntime) -> Result<(), Fail> {
-    let alloc = rt.alloc();
-    for words in [
-        "take",
-        "take pcap 9600x11",
-        "take pcap 9600x11 c",
-        "take pcap 299x11 a",
-        "take text 9600x9 a",
-        "take text 9600x11 a frame",
-        "give text 9600x11 a",
-        "give pcap",
-        "give logic2 9600x11",
-        "give pcap 9600x12",
-    ] {
-        let ran = run_words(alloc, words, POLLS, 0, 0)?;
-        ended(
-            &rt,
-            &ran,
-            Outcome::Ended(Status::Usage),
-            b"",
-            b"fault: usage\n",
-        );
+    for (words, said) in &OTHER_WORDS {
+        let ran = run_words(rt.alloc(), words, POLLS, 0, 0)?;
+        ended(&rt, &ran, Outcome::Ended(Status::Usage), b"", said);
+    }
+    Ok(())
+}
+
+#[test]
+fn help_and_version_are_printed(rt: HostRuntime) -> Result<(), Fail> {
+    for words in &["help", "--help", "-h"] {
+        let ran = run_words(rt.alloc(), words, POLLS, 0, 0)?;
+        ended(&rt, &ran, DONE, &HELP_PAGE, b"");
+    }
+    for words in &["version", "--version"] {
+        let ran = run_words(rt.alloc(), words, POLLS, 0, 0)?;
+        ended(&rt, &ran, DONE, b"line_capture 0.7.0\n", b"");
     }
     Ok(())
 }

@@ -63,11 +63,28 @@ pub enum Command {
         form: GiveForm,
         rate: Rate,
     },
+    /// To print the page that lists the program's words.
+    Help,
+    /// To print the program's name and version.
+    Version,
 }
 
 /// The words ask for no command.
 #[derive(Clone, Copy, Debug, PartialEq, Eq)]
 pub struct Usage;
+
+// Returns the command that one word asks for.
+fn read_one(word: &str) -> Result<Command, Usage>
+    ensures ok { IfOk result (λ command. IsCaptureCommand (word.now ∷ []) command) }
+    ensures usage { OnErr result ((command : Command)
+        → IsCaptureCommand (word.now ∷ []) command → ⊥) }
+{
+    match word {
+        "help" | "--help" | "-h" => Ok(Command::Help),
+        "version" | "--version" => Ok(Command::Version),
+        _ => Err(Usage),
+    }
+}
 
 // Returns the form to take that a word names.
 fn read_take_form(word: &str) -> Result<TakeForm, Usage>
@@ -211,6 +228,7 @@ pub fn read_words(words: &[String]) -> Result<Command, Usage>
         → IsCaptureCommand (map string_bytes words.now) command → ⊥) }
 {
     match words {
+        [word] => read_one(word.as_str()),
         [verb, form, rate] => read_three(verb.as_str(), form.as_str(), rate.as_str()),
         [verb, form, rate, ways] => {
             read_four(verb.as_str(), form.as_str(), rate.as_str(), ways.as_str())

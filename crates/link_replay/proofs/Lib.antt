@@ -13,3 +13,4 @@ pub mod Numbers
 pub mod Paths
 pub mod Auditing
 pub mod HelpPage
+mod UsageTexts

@@ -7,7 +7,8 @@ use Rattle.link_replay.proofs.Duplexed.{duplex_done, two_wire_done}
 use Rattle.link_replay.proofs.Listable.{listable_done, auditable_done}
 use Rattle.link_replay.{proofs.Spaced.whole-spaces, specs.AuditCommand.audited}
 use Rattle.command_ends.specs.Programs.{EndsLog, IsCalm}
-use Rattle.link_replay.specs.Commands.{Does, MayDo, EndsWell, HasCauses, HasRecordedCauses, FlushesLog}
+use Rattle.link_replay.specs.Commands.{Does, MayDo, EndsWell, HasCauses, HasRecordedCauses}
+use Rattle.link_replay.specs.Commands.{FlushesAfter}
 use Rattle.link_replay.specs.LiveCommands.{HasLiveCauses}
 use Rattle.live_commands.proofs.Able.{lives_done}
 use Rattle.link_replay.specs.declared.commands.live.TheConstants.{LIVE_AHEAD}
@@ -22,7 +23,8 @@ use Rattle.link_replay.specs.declared.words.Command.TheVariants.{TwoWire, Help, 
 use Rattle.command_ends.{proofs.Links.link-right, specs.Links.link_of}
 use Rattle.command_ends.proofs.{FlushLaws.flushes_after, Logging.sinks_after}
 use Rattle.command_ends.specs.Causes.{SinkCause, DiskCause, NoneRose}
-use Rattle.command_ends.specs.{Outside.Outside, PrintsText.PrintsText, Statuses.fault_line}
+use Rattle.command_ends.specs.{Outside.Outside, PrintsText.PrintsText, Reasons.untold}
+use Rattle.command_ends.specs.Statuses.{fault_line}
 use Rattle.command_ends.specs.declared.status.Status.{Status}
 use Rattle.command_ends.specs.declared.status.Status.TheVariants.{Done, WriteFault, JournalFault}
 use Rattle.command_ends.specs.declared.status.Status.TheVariants.{HasJournal, NoMemory}
@@ -67,45 +69,47 @@ module _ {K S O L D : Type 0} (k : Source K) (s : Source S) (o : Sink O) (l : Si
     (d : SlotDisk D) where
   -- The causes still hold after the fault line, whether it was written or its write failed.
   recorded_after : (asked : Option Command) (before after : Outside K S O L D) (noted : L)
-      (status : Status)
+      (status : Status) (line : List ℕ) → (fault_line untold status ≡ [] → line ≡ [])
       → HasRecordedCauses k s o l d asked before (record after { log = noted }) status
-      → EndsLog l noted after.log (fault_line status) → IsNotFlushed l noted after.log
+      → EndsLog l noted after.log line → IsNotFlushed l noted after.log
       → HasRecordedCauses k s o l d asked before after status
-  recorded_after asked before after noted status h ends not_flushed = record {
+  recorded_after asked before after noted status line none h ends not_flushed = record {
     streams = record {
       reads = h.streams.reads;
       sinks = sinks_after (o.faults before.out) (o.faults after.out) (l.faults before.log)
           (l.faults noted) (l.faults after.log) status h.streams.sinks ends.never_falls
-          (λ empty. ap l.faults (ends.same empty));
+          (λ empty. ap l.faults (ends.same (none empty)));
       flushes = flushes_after o l before.out after.out before.log noted after.log status
-          h.streams.flushes ends.same not_flushed;
+          h.streams.flushes (λ empty. ends.same (none empty)) not_flushed;
     };
     own = h.own;
   }
 
-  live_after : (before after : Outside K S O L D) (noted : L) (status : Status)
+  live_after : (before after : Outside K S O L D) (noted : L) (status : Status) (line : List ℕ)
+      → (fault_line untold status ≡ [] → line ≡ [])
       → HasLiveCauses k s o l d before (record after { log = noted }) status
-      → EndsLog l noted after.log (fault_line status) → HasLiveCauses k s o l d before after status
-  live_after before after noted status h ends = record {
+      → EndsLog l noted after.log line → HasLiveCauses k s o l d before after status
+  live_after before after noted status line none h ends = record {
     counts = record {
       reads = h.counts.reads;
       sinks = sinks_after (o.faults before.out) (o.faults after.out) (l.faults before.log)
           (l.faults noted) (l.faults after.log) status h.counts.sinks ends.never_falls
-          (λ empty. ap l.faults (ends.same empty));
+          (λ empty. ap l.faults (ends.same (none empty)));
     };
     disk = h.disk;
   }
 
   pub causes_after : (asked : Option Command) (before after : Outside K S O L D) (noted : L)
-      (status : Status) → HasCauses k s o l d asked before (record after { log = noted }) status
-      → EndsLog l noted after.log (fault_line status) → FlushesLog l asked noted after.log status
+      (status : Status) (line : List ℕ) → (fault_line untold status ≡ [] → line ≡ [])
+      → HasCauses k s o l d asked before (record after { log = noted }) status
+      → EndsLog l noted after.log line → FlushesAfter l asked noted after.log line
       → HasCauses k s o l d asked before after status
-  causes_after (Some (LiveSeal proto profile dir)) before after noted status h ends flushed =
-      live_after before after noted status h ends
-  causes_after (Some (LiveCheck proto profile dir)) before after noted status h ends flushed =
-      live_after before after noted status h ends
-  causes_after asked before after noted status h ends flushed =
-      recorded_after asked before after noted status h ends flushed
+  causes_after (Some (LiveSeal proto profile dir)) before after noted status line none h ends
+      flushed = live_after before after noted status line none h ends
+  causes_after (Some (LiveCheck proto profile dir)) before after noted status line none h ends
+      flushed = live_after before after noted status line none h ends
+  causes_after asked before after noted status line none h ends flushed =
+      recorded_after asked before after noted status line none h ends flushed
 
   -- What the causes say of the sinks, for whatever command.
   pub sinks_in : (asked : Option Command) (before after : Outside K S O L D) (status : Status)

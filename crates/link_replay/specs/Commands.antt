@@ -1,5 +1,5 @@
 -- What the program does for each command that its words may ask for, or if they ask for none.
-use Rattle.std.specs.Prelude.{◌≡◌, ◌⊎◌, ℕ, Option, Some, None}
+use Rattle.std.specs.Prelude.{◌≡◌, ◌⊎◌, ℕ, List, Option, Some, None}
 use Rattle.yasir_io.specs.declared.source.Source.{Ghosts as Source}
 use Rattle.yasir_io.specs.declared.sink.Sink.{Ghosts as Sink}
 use Rattle.yasir_io.specs.declared.disk.SlotDisk.{Ghosts as SlotDisk}
@@ -9,6 +9,7 @@ use Rattle.yasir_io.specs.Flushed.{IsNotFlushed}
 use Rattle.sequence_journal.specs.Journal.{IsBut}
 use Rattle.command_ends.specs.Outside.{Outside}
 use Rattle.command_ends.specs.Causes.{InputCause, DiskCause}
+use Rattle.command_ends.specs.Programs.{Runs}
 use Rattle.command_ends.specs.StreamCauses.{HasStreamCauses}
 use Rattle.link_replay.specs.InitCommand.{Inits, IsBlank}
 use Rattle.command_ends.specs.Readable.{IsReadable}
@@ -50,12 +51,17 @@ KeepsDisk d (Some (LiveCheck proto profile dir)) old new =
     KeepsFloorThroughout d (link_of proto profile dir) old new
 KeepsDisk d asked old new = new ≡ old
 
--- What was done to the log between a command's end and the end of the run: the fault line was
--- written to it, and for a live line's command it was flushed behind that line.
-abbrev pub FlushesLog : {L : Type 0} → Sink L → Option Command → L → L → Status → Type 0
-FlushesLog l (Some (LiveSeal proto profile dir)) noted now status = FlushesFault l noted now status
-FlushesLog l (Some (LiveCheck proto profile dir)) noted now status = FlushesFault l noted now status
-FlushesLog l asked noted now status = IsNotFlushed l noted now
+-- What was done to the log between a command's end and the end of the run: the text of a fault was
+-- written to it, and for a live line's command it was flushed behind that text.
+abbrev pub FlushesAfter : {L : Type 0} → Sink L → Option Command → L → L → List ℕ → Type 0
+FlushesAfter l (Some (LiveSeal proto profile dir)) noted now text = FlushesFault l noted now text
+FlushesAfter l (Some (LiveCheck proto profile dir)) noted now text = FlushesFault l noted now text
+FlushesAfter l asked noted now text = IsNotFlushed l noted now
+
+-- The same by the status of the run, of which `line` is the text.
+abbrev pub FlushesLog : {L : Type 0} → Sink L → (Status → List ℕ) → Option Command → L → L → Status
+    → Type 0
+FlushesLog l line asked noted now status = FlushesAfter l asked noted now (line status)
 
 -- The causes that depend on the command: that of the disk and, if the command reads no key, that of
 -- the input.
@@ -108,6 +114,12 @@ module _ {K S O L D : Type 0} (k : Source K) (s : Source S) (o : Sink O) (l : Si
       ChecksLive k s o l d proto profile dir before after status
   Does (Some Help) before after status = Helps o l before after status
   Does (Some Version) before after status = TellsVersion o l before after status
+
+  -- What a run does: what was asked for, and then the writing of the text of a fault. `line` is that
+  -- text for each status.
+  abbrev pub RunsSo : (Status → List ℕ) → Option Command → Outside K S O L D → Outside K S O L D
+      → Status → Type 0
+  RunsSo line = Runs l line Does (FlushesLog l line)
 
   -- Holds if all that the command is given is right.
   abbrev pub MayDo : Option Command → Outside K S O L D → Type 0

@@ -15,5 +15,6 @@ pub mod ReplayCommand
 pub mod TrialCommand
 pub mod PollCommand
 pub mod AboutCommands
+pub mod UsageLines
 pub mod Commands
 pub mod OverFiles

@@ -1,5 +1,5 @@
 -- The commands `live seal` and `live check`: the transmitter and the receiver on a line as it comes.
-use Rattle.std.specs.Prelude.{◌≢◌, ◌⊎◌, [], ℕ}
+use Rattle.std.specs.Prelude.{◌≢◌, ◌⊎◌, List, [], ℕ}
 use Rattle.yasir_io.specs.Causes.{Rose}
 use Rattle.yasir_io.specs.Flushed.{IsFlushed}
 use Rattle.yasir_io.specs.declared.source.Source.{Ghosts as Source}
@@ -8,7 +8,6 @@ use Rattle.yasir_io.specs.declared.disk.SlotDisk.{Ghosts as SlotDisk}
 use Rattle.link_format.specs.declared.dir.Dir.{Dir}
 use Rattle.command_ends.specs.Links.{link_of}
 use Rattle.command_ends.specs.Outside.{Outside}
-use Rattle.command_ends.specs.Statuses.{fault_line}
 use Rattle.command_ends.specs.declared.status.Status.{Status}
 use Rattle.command_ends.specs.declared.link.Profile.{Profile}
 use Rattle.command_ends.specs.declared.link.Proto.{Proto}
@@ -38,8 +37,8 @@ module _ {K S O L D : Type 0} (k : Source K) (s : Source S) (o : Sink O) (l : Si
     pub counts : HasCounts k s o l before after status
     pub disk : DiskCause (d.faults before.disk) (d.faults after.disk) status
 
--- Holds if the log was flushed behind the fault line of a status that has one, or the write of that
--- line or the flush failed.
-abbrev pub FlushesFault : {L : Type 0} → Sink L → L → L → Status → Type 0
-FlushesFault l noted now status = fault_line status ≢ []
+-- Holds if the log was flushed behind the text of a fault, if there is one, or the write of that
+-- text or the flush failed.
+abbrev pub FlushesFault : {L : Type 0} → Sink L → L → L → List ℕ → Type 0
+FlushesFault l noted now text = text ≢ []
     → IsFlushed l noted now ⊎ Rose (l.faults noted) (l.faults now)

@@ -1,5 +1,7 @@
 -- The program over a file system: which files are its key and its journal, and how it ends.
 use Rattle.std.specs.Prelude.{◌≡◌, ◌↔◌, ◌⊎◌, ℕ, List, Option, Some, None}
+use Rattle.yasir_io.specs.Edge.{file_reason, slots_reason}
+use Rattle.yasir_io.specs.declared.reason.Reason.{Reason}
 use Rattle.yasir_io.specs.declared.source.Source.{Ghosts as Source}
 use Rattle.yasir_io.specs.declared.sink.Sink.{Ghosts as Sink}
 use Rattle.yasir_io.specs.declared.disk.SlotDisk.{Ghosts as SlotDisk}
@@ -10,14 +12,16 @@ use Rattle.yasir_io.specs.declared.files.SlotFile.TheVariants.{Standing, New}
 use Rattle.command_ends.specs.Outside.{Outside, outside}
 use Rattle.line_commands.specs.declared.streams.Streams.{Streams}
 use Rattle.command_ends.specs.Given.{IsKeyFile, IsJournalFile}
-use Rattle.command_ends.specs.Statuses.{exit_status_of, fault_line}
+use Rattle.command_ends.specs.Reasons.{told_by}
+use Rattle.command_ends.specs.Statuses.{exit_status_of}
 use Rattle.command_ends.specs.declared.status.Status.{Status}
 use Rattle.command_ends.specs.declared.status.Status.TheVariants.{Usage, NoMemory}
 use Rattle.link_replay.specs.declared.words.Command.{Command}
 use Rattle.link_replay.specs.declared.words.Command.TheVariants.{Init}
 use Rattle.link_replay.specs.Words.{key_place, journal_place, word_in}
-use Rattle.command_ends.specs.Programs.{Runs, IsCalm}
-use Rattle.link_replay.specs.Commands.{Does, FlushesLog, HasCauses, MayDo, EndsWell, KeepsDisk}
+use Rattle.command_ends.specs.Programs.{IsCalm}
+use Rattle.link_replay.specs.Commands.{RunsSo, HasCauses, MayDo, EndsWell, KeepsDisk}
+use Rattle.link_replay.specs.UsageLines.{fault_text}
 
 -- the path of a file whose path has this place among the words of a command, if the command has
 -- such a file
@@ -38,9 +42,10 @@ outside_of key streams disk = outside key streams.input streams.out streams.log 
 abbrev pub with_files : {K S O L D : Type 0} → Streams S O L → K → D → Outside K S O L D
 with_files streams key disk = outside_of key streams disk
 
+-- `tells` is the reason that the input tells.
 module _ {R F D S O L : Type 0}
     (k : Source (FileSource R F D)) (s : Source S) (o : Sink O) (l : Sink L)
-    (d : SlotDisk (FileSlots R F D)) where
+    (d : SlotDisk (FileSlots R F D)) (tells : S → Option Reason) where
   -- Holds if the program runs over the files whose paths are among its words, and does what the
   -- words ask for.
   pub record RunsOverFiles (words : List (List ℕ)) (asked : Option Command)
@@ -52,7 +57,8 @@ module _ {R F D S O L : Type 0}
     pub key : IsKeyFile (path_in key_place words asked) key_before
     pub journal : IsJournalFile (path_in journal_place words asked) (journal_kind asked) disk_before
     pub usage : (status ≡ Usage) ↔ (asked ≡ None)
-    pub runs : Runs l fault_line (Does k s o l d) (FlushesLog l) asked
+    pub runs : RunsSo k s o l d (fault_text words
+        (told_by file_reason tells slots_reason key_after after.input disk_after)) asked
         (with_files before key_before disk_before) (with_files after key_after disk_after) status
     pub any_moment : KeepsDisk d asked disk_before disk_after
     pub done : MayDo k s o l d asked (with_files before key_before disk_before)

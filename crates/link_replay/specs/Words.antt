@@ -105,6 +105,16 @@ IsRecorded (LiveSeal proto profile dir) = ⊥
 IsRecorded (LiveCheck proto profile dir) = ⊥
 IsRecorded command = Unit {0}
 
+-- Holds if a command takes memory.
+abbrev pub TakesMemory : Command → Type 0
+TakesMemory (Replay proto profile dir) = Unit {0}
+TakesMemory (Poll proto profile seed count) = Unit {0}
+TakesMemory (Space proto profile) = Unit {0}
+TakesMemory (Audit proto profile dir sent got) = Unit {0}
+TakesMemory (Duplex proto profile dir) = Unit {0}
+TakesMemory (TwoWire proto profile dir side waits) = Unit {0}
+TakesMemory command = ⊥
+
 -- Holds if the floors of an audit that is asked for are 0 or numbers of frames.
 abbrev pub AreFloors : Option Command → Type 0
 AreFloors (Some (Audit proto profile dir sent got)) = (sent ≤ LIMIT) × (got ≤ LIMIT)

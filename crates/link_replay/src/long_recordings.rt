@@ -7,7 +7,7 @@ use sequence_journal::{LinkId, slot_of};
 use std::alloc::Global;
 use std::process::Abort;
 use std::test::Fail;
-use yasir_io::{MemSink, SlotDisk, SteadySlots, SteadySource};
+use yasir_io::{MemSink, SlotDisk, SteadySlots, SteadySource, TellsReason};
 
 /// How many frames each recording has. Together they have 70,000 bytes.
 const FRAMES: u64 = 2000;
@@ -28,7 +28,7 @@ const DELAY: u64 = 18;
 
 /// Runs the program with these words over this text and this disk, with ample room for what is
 /// written.
-pub fn run_on<D: SlotDisk>(
+pub fn run_on<D: SlotDisk + TellsReason>(
     alloc: Global,
     words: &str,
     text: &[u8],

@@ -39,6 +39,9 @@ mod tests;
 mod trial_tests;
 #[cfg(test)]
 mod two_wire_tests;
+mod usage;
+#[cfg(test)]
+mod usage_tests;
 mod words;
 
 pub use command_ends::{NOT_GIVEN, Profile, Proto, Usage};

@@ -15,7 +15,7 @@ use std::alloc::AllocError;
 use std::env::Args;
 use std::io;
 use yasir_io::{
-    Durable, FileSlots, FileSource, Lock, OpensFiles, Sink, SlotDisk, SlotFile, Source,
+    Durable, FileSlots, FileSource, Lock, OpensFiles, Sink, SlotDisk, SlotFile, Source, TellsReason,
 };
 
 // Returns a copy of the word at this place, or `None` if there is no such word.
@@ -73,7 +73,7 @@ where
 }
 
 // Runs the program with these words.
-fn run_words<'a, R: OpensFiles + AllocGlobal, S: Source, O: Sink, L: Sink>(
+fn run_words<'a, R: OpensFiles + AllocGlobal, S: Source + TellsReason, O: Sink, L: Sink>(
     system: &'a R,
     words: &[String],
     streams: &mut Streams<S, O, L>,
@@ -83,7 +83,7 @@ where
     ensures runs { IfOk result (λ status. (asked : Option Command)
         → Asks (map string_bytes words.now) asked
         → RunsOverFiles ⟦<FileSource<'a, R> as Source>⟧ S.Source O.Sink L.Sink
-        ⟦<FileSlots<'a, R> as SlotDisk>⟧ (map string_bytes words.now) asked
+        ⟦<FileSlots<'a, R> as SlotDisk>⟧ S.told_reason (map string_bytes words.now) asked
         streams.old streams.new status) }
     ensures no_memory { OnErr result
         (streams.new ≡ streams.old) }
@@ -95,7 +95,7 @@ where
 
 /// Runs the program with the words after the first argument, which is its name. The key and the
 /// journal are files of this system. Returns the exit status.
-pub fn run_over_files<'a, R: OpensFiles + AllocGlobal, S: Source, O: Sink, L: Sink>(
+pub fn run_over_files<'a, R: OpensFiles + AllocGlobal, S: Source + TellsReason, O: Sink, L: Sink>(
     system: &'a R,
     args: io::Result<Args>,
     streams: &mut Streams<S, O, L>,
@@ -113,7 +113,7 @@ where
     /// is that of no memory, or 13, and the streams are as they were.
     ensures ends { IfOk args (λ given. (asked : Option Command) → Asks (words_after given) asked
         → EndsOverFiles ⟦<FileSource<'a, R> as Source>⟧ S.Source O.Sink L.Sink
-        ⟦<FileSlots<'a, R> as SlotDisk>⟧ (words_after given) asked
+        ⟦<FileSlots<'a, R> as SlotDisk>⟧ S.told_reason (words_after given) asked
         streams.old streams.new result) }
 {
     // The files stay open as long as the run lasts.

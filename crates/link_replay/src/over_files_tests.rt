@@ -377,9 +377,17 @@ const NO_COMMAND: Row = Row {
     args: "link_replay seal rtu ab keys/ab journals/ab x",
     exit_status: 2,
     out: b"",
-    log: b"fault: usage\n",
+    log: b"fault: usage\nusage: link_replay seal P DIR KEY JOURNAL\n",
     journal_now: Some(NEW_JOURNAL),
     ..SEAL
+};
+
+const NO_WORDS: Row = Row {
+    args: "link_replay",
+    log: b"fault: usage\n\
+        commands: read init seal check live space replay audit duplex two_wire \
+        trial poll vectors help version\n",
+    ..NO_COMMAND
 };
 
 const ROWS: [Row; 11] = [
@@ -401,7 +409,7 @@ const ROWS: [Row; 11] = [
         journal: None,
         exit_status: 7,
         out: b"",
-        log: b"fault: journal\n",
+        log: b"fault: journal: no such file\n",
         journal_now: None,
         ..SEAL
     },
@@ -409,7 +417,7 @@ const ROWS: [Row; 11] = [
         key: None,
         exit_status: 5,
         out: b"",
-        log: b"fault: read\n",
+        log: b"fault: read key: no such file\n",
         journal_now: Some(NEW_JOURNAL),
         ..SEAL
     },
@@ -424,16 +432,14 @@ const ROWS: [Row; 11] = [
     Row {
         args: "link_replay init rtu ab journals/ab ",
         journal: None,
+        log: b"fault: usage\nusage: link_replay init P DIR JOURNAL\n",
         journal_now: None,
         ..NO_COMMAND
     },
-    Row {
-        args: "link_replay",
-        ..NO_COMMAND
-    },
+    NO_WORDS,
     Row {
         args: "",
-        ..NO_COMMAND
+        ..NO_WORDS
     },
 ];
 
@@ -477,7 +483,7 @@ fn run_into(
 
 // Returns a sink for what a run writes.
 fn sink(alloc: Global) -> Result<MemSink, Fail> {
-    Ok(MemSink::with_room(alloc, 100, 512, plan(0))?)
+    Ok(MemSink::with_room(alloc, 200, 512, plan(0))?)
 }
 
 // Runs the program with these arguments over this disk.

@@ -1,15 +1,16 @@
 //! The program over the ends that it is handed: it reads its words, and does what they ask for.
-ghost use Rattle.std.specs.Prelude.{◌≡◌, ◌↔◌, Option, Some, None, map};
+ghost use Rattle.std.specs.Prelude.{◌≡◌, ◌↔◌, ◌≢◌, [], Option, Some, None, map};
 ghost use Rattle.std.specs.String.{string_bytes};
 ghost use Rattle.command_ends.specs.Ends.{outside_before, outside_after};
-ghost use Rattle.command_ends.specs.Programs.{Runs, IsCalm, EndsLog};
-ghost use Rattle.command_ends.specs.Statuses.{fault_line};
+ghost use Rattle.command_ends.specs.Programs.{IsCalm, EndsLog};
+ghost use Rattle.command_ends.specs.Reasons.{told_by};
 ghost use Rattle.link_replay.specs.OverFiles.{outside_of};
 ghost use Rattle.link_replay.specs.declared.words.Command.{Command};
-ghost use Rattle.link_replay.specs.Words.{Asks, AreFloors, IsRecorded};
-ghost use Rattle.link_replay.specs.Commands.{Does, KeepsDisk, HasCauses, FlushesLog};
-ghost use Rattle.link_replay.specs.Commands.{MayDo, EndsWell};
+ghost use Rattle.link_replay.specs.Words.{Asks, AreFloors, IsRecorded, TakesMemory};
+ghost use Rattle.link_replay.specs.Commands.{Does, KeepsDisk, HasCauses, FlushesAfter};
+ghost use Rattle.link_replay.specs.Commands.{RunsSo, MayDo, EndsWell};
 ghost use Rattle.link_replay.specs.LiveCommands.{FlushesFault};
+ghost use Rattle.link_replay.specs.UsageLines.{fault_text};
 
 use crate::commands::about::{print_help, print_version};
 use crate::commands::audit::{Audited, audit};
@@ -25,21 +26,21 @@ use crate::commands::space::space;
 use crate::commands::tables::print_tables;
 use crate::commands::trial::try_link;
 use crate::commands::wires::{SharedLine, drive_two_wires};
+use crate::usage::fault_text;
 use crate::{Command, read_words};
-use command_ends::{Ends, Status, fault_line, write_fault};
+use command_ends::{Ends, Reasons, Status, write_fault_line};
 use line_commands::Streams;
 use std::alloc::Global;
-use yasir_io::{Failed, Sink, SlotDisk, Source, write_all};
+use yasir_io::{Failed, Sink, SlotDisk, Source, TellsReason, write_all};
 
-// Does what a command over a recording asks for, or one that reads no line. It doesn't write the
-// fault line.
-fn perform<K: Source, S: Source, O: Sink, L: Sink, D: SlotDisk>(
+// Does what a command that takes memory asks for. It doesn't write the fault line.
+fn perform_in_memory<K: Source, S: Source, O: Sink, L: Sink, D: SlotDisk>(
     alloc: Global,
     command: Command,
     ends: Ends<K, S, O, L, D>,
 ) -> Status
     requires floors { AreFloors (Some command) }
-    requires recorded { IsRecorded command }
+    requires memory { TakesMemory command }
     ensures used { result ≡ Status.Usage → ⊥ }
     ensures does { Does K.Source S.Source O.Sink L.Sink D.SlotDisk (Some command)
         (outside_before ends.entry) (outside_after ends.exit) result }
@@ -49,15 +50,7 @@ fn perform<K: Source, S: Source, O: Sink, L: Sink, D: SlotDisk>(
         (outside_before ends.entry) (outside_after ends.exit) result }
 {
     match command {
-        Command::Init(proto, profile, dir) => make_journal(proto, profile, dir, ends),
-        Command::Read(proto) => read_line(proto, ends),
-        Command::Vectors => print_tables(ends),
-        Command::Seal(proto, profile, dir) => seal(proto, profile, dir, ends),
-        Command::Check(proto, profile, dir) => check(proto, profile, dir, ends),
         Command::Replay(proto, profile, dir) => replay(alloc, proto, profile, dir, ends),
-        Command::Trial(proto, profile, seed, count) => {
-            try_link(proto, profile, seed, count, ends)
-        }
         Command::Poll(proto, profile, seed, count) => {
             let drawn = Drawn {
                 proto,
@@ -89,9 +82,40 @@ fn perform<K: Source, S: Source, O: Sink, L: Sink, D: SlotDisk>(
             };
             drive_two_wires(alloc, of, ends)
         }
+        _ => unreachable!(),
+    }
+}
+
+// Does what a command over a recording asks for, or one that reads no line. It doesn't write the
+// fault line.
+fn perform<K: Source, S: Source, O: Sink, L: Sink, D: SlotDisk>(
+    alloc: Global,
+    command: Command,
+    ends: Ends<K, S, O, L, D>,
+) -> Status
+    requires floors { AreFloors (Some command) }
+    requires recorded { IsRecorded command }
+    ensures used { result ≡ Status.Usage → ⊥ }
+    ensures does { Does K.Source S.Source O.Sink L.Sink D.SlotDisk (Some command)
+        (outside_before ends.entry) (outside_after ends.exit) result }
+    ensures any_moment { KeepsDisk D.SlotDisk (Some command) ends.entry.disk.now
+        (outside_after ends.exit).disk }
+    ensures causes { HasCauses K.Source S.Source O.Sink L.Sink D.SlotDisk (Some command)
+        (outside_before ends.entry) (outside_after ends.exit) result }
+{
+    match command {
+        Command::Init(proto, profile, dir) => make_journal(proto, profile, dir, ends),
+        Command::Read(proto) => read_line(proto, ends),
+        Command::Vectors => print_tables(ends),
+        Command::Seal(proto, profile, dir) => seal(proto, profile, dir, ends),
+        Command::Check(proto, profile, dir) => check(proto, profile, dir, ends),
+        Command::Trial(proto, profile, seed, count) => {
+            try_link(proto, profile, seed, count, ends)
+        }
         Command::LiveSeal(..) | Command::LiveCheck(..) => unreachable!(),
         Command::Help => print_help(ends),
         Command::Version => print_version(ends),
+        _ => perform_in_memory(alloc, command, ends),
     }
 }
 
@@ -156,31 +180,30 @@ fn asked_by(words: &[String]) -> Option<Command>
     }
 }
 
-// Writes the fault line of a status, if it has one, to the log, and flushes the log behind it. If
-// the write fails, nothing more is done, and the status stays the same if a call fails.
-fn send_fault<L: Sink>(log: &mut L, status: &Status)
-    ensures ends { EndsLog L.Sink log.old log.new (fault_line status.now) }
-    ensures flushes { FlushesFault L.Sink log.old log.new status.now }
+// Writes the text of a fault, if there is one, to the log, and flushes the log behind it. If the
+// write fails, nothing more is done.
+fn send_fault<L: Sink>(log: &mut L, text: &[u8])
+    ensures ends { EndsLog L.Sink log.old log.new text.now }
+    ensures flushes { FlushesFault L.Sink log.old log.new text.now }
 {
-    let line = fault_line(status);
-    if line.is_empty() {
+    if text.is_empty() {
         return;
     }
-    match write_all(log, line.as_slice()) {
+    match write_all(log, text) {
         Ok(()) => {}
         Err(Failed) => return,
     }
     let _ = log.flush();
 }
 
-// Writes the fault line of a status to the log, behind what the command has written.
-fn log_fault<L: Sink>(asked: Option<Command>, log: &mut L, status: &Status)
-    ensures ends { EndsLog L.Sink log.old log.new (fault_line status.now) }
-    ensures flushes { FlushesLog L.Sink asked log.old log.new status.now }
+// Writes the text of a fault to the log, behind what the command has written.
+fn log_fault<L: Sink>(asked: Option<Command>, log: &mut L, text: &[u8])
+    ensures ends { EndsLog L.Sink log.old log.new text.now }
+    ensures flushes { FlushesAfter L.Sink asked log.old log.new text.now }
 {
     match asked {
-        Some(Command::LiveSeal(..) | Command::LiveCheck(..)) => send_fault(log, status),
-        _ => write_fault(log, status),
+        Some(Command::LiveSeal(..) | Command::LiveCheck(..)) => send_fault(log, text),
+        _ => write_fault_line(log, text),
     }
 }
 
@@ -188,21 +211,27 @@ fn log_fault<L: Sink>(asked: Option<Command>, log: &mut L, status: &Status)
 /// they ask for. Only `space`, `audit`, `duplex`, `two_wire`, `replay` and `poll` take memory. The
 /// clause of `replay` in `runs` is the program's headline: the record `Headline` of
 /// `specs/ReplayCommand.antt`.
-pub fn run<K: Source, S: Source, O: Sink, L: Sink, D: SlotDisk>(
+pub fn run<K, S, O: Sink, L: Sink, D>(
     alloc: Global,
     words: &[String],
     key: &mut K,
     streams: &mut Streams<S, O, L>,
     disk: &mut D,
 ) -> Status
+where
+    K: Source + TellsReason,
+    S: Source + TellsReason,
+    D: SlotDisk + TellsReason,
     /// The status is `Usage` exactly if the words ask for no command.
     ensures usage { (result ≡ Status.Usage) ↔ Asks (map string_bytes words.now) None }
 
     /// Whatever the words ask for, what was read, written and kept is what the command's record
-    /// says for the status, and after it comes the fault line, if the status has one.
+    /// says for the status. After it comes the fault line, if the status has one, with the reason
+    /// that key, input or journal tell; after words that fit no command also the words that do.
     ensures runs { (asked : Option Command) → Asks (map string_bytes words.now) asked
-        → Runs L.Sink fault_line (Does K.Source S.Source O.Sink L.Sink D.SlotDisk)
-        (FlushesLog L.Sink) asked
+        → RunsSo K.Source S.Source O.Sink L.Sink D.SlotDisk
+        (fault_text (map string_bytes words.now) (told_by K.told_reason S.told_reason
+        D.told_reason key.new streams.new.input disk.new)) asked
         (outside_of key.old streams.old disk.old)
         (outside_of key.new streams.new disk.new) result }
 
@@ -234,6 +263,8 @@ pub fn run<K: Source, S: Source, O: Sink, L: Sink, D: SlotDisk>(
 {
     let asked = asked_by(words);
     let status = answer(alloc, asked, key, streams, disk);
-    log_fault(asked, &mut streams.log, &status);
+    let reasons = Reasons::of(key, &streams.input, disk);
+    let text = fault_text(words, &reasons, &status);
+    log_fault(asked, &mut streams.log, text.as_slice());
     status
 }

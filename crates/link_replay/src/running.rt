@@ -7,7 +7,7 @@ use line_commands::Streams;
 use std::alloc::{AllocError, Global};
 use std::process::Abort;
 use std::test::Fail;
-use yasir_io::{MemSink, MemSlots, MemSource, Plan, Slot, SlotDisk};
+use yasir_io::{MemSink, MemSlots, MemSource, Plan, Slot, SlotDisk, TellsReason};
 
 /// The key text of the tests, for a key of 16 bytes.
 pub const KEY: &[u8] = b"000102030405060708090a0b0c0d0e0f";
@@ -79,7 +79,7 @@ pub fn has_key(rt: &impl Abort, words: &[String], place: Option<usize>) {
 }
 
 /// Runs the program with these words over these ends.
-pub fn run_words<D: SlotDisk>(
+pub fn run_words<D: SlotDisk + TellsReason>(
     alloc: Global,
     words: &str,
     ends: Ends<'static>,

@@ -1,5 +1,7 @@
 //! Tests of the program's words, and of the commands `read`, `vectors`, `init`, `seal` and `check`.
-use crate::running::{Ends, KEY, Ran, asks, ended, has_key, has_slots, plan, run_words, words_of};
+use crate::running::{
+    Ends, KEY, Ran, asks, ended, has_key, has_slots, has_status, holds, plan, run_words, words_of,
+};
 use crate::{Command, Dir, Profile, Proto, Usage, journal_word, makes_journal};
 use command_ends::Status;
 use sequence_journal::{LIMIT, LinkId, slot_of};
@@ -9,7 +11,7 @@ use std::test::Fail;
 use std::{env, fs};
 use yasir_io::{
     Failed, FileSlots, MemSink, MemSlots, MemSource, Plan, Sink, Slot, SlotBytes, SlotDisk,
-    SlotFile, SteadySlots,
+    SlotFile, SteadySlots, TellsReason,
 };
 use yasir_ticks::{BadTicks, TickFault};
 
@@ -69,7 +71,11 @@ struct Given<'a> {
 }
 
 // Runs the program over what is given and this disk.
-fn run_over<D: SlotDisk>(alloc: Global, given: &Given<'_>, disk: &mut D) -> Result<Ran, Fail> {
+fn run_over<D: SlotDisk + TellsReason>(
+    alloc: Global,
+    given: &Given<'_>,
+    disk: &mut D,
+) -> Result<Ran, Fail> {
     let ends = Ends {
         key: MemSource::new(given.key, 512, Plan::new()),
         input: MemSource::new(given.text, 512, Plan::new()),
@@ -139,7 +145,9 @@ fn has_exit_status(rt: &impl Abort, ran: &Ran, exit_status: u8) {
 // Checks that in a run, the first call of whose output fails, nothing was done except that the
 // fault line was written.
 fn is_refused(rt: &impl Abort, mut ran: Ran) {
-    ended(rt, &ran, Status::Usage, b"", b"fault: usage\n");
+    has_status(rt, &ran, Status::Usage);
+    holds(rt, &ran.out, b"");
+    assert!(rt; ran.log.held().starts_with(b"fault: usage\n"));
     has_exit_status(rt, &ran, 2);
     // No call has been made on the output yet, so this one is the first, which fails.
     assert!(rt; ran.out.flush().is_err());
@@ -780,6 +788,13 @@ fn makes_a_journal_in_an_empty_file(rt: HostRuntime) -> Result<(), Fail> {
 #[test]
 fn makes_no_journal_where_no_file_can_stand(rt: HostRuntime) -> Result<(), Fail> {
     let folder = path_of(rt.alloc(), ".")?;
-    make_at(&rt, &rt, folder, Status::JournalFault, b"fault: journal\n")?;
-    make_at(&rt, &rt, None, Status::JournalFault, b"fault: journal\n")
+    let is_folder = b"fault: journal: is a folder\n";
+    make_at(&rt, &rt, folder, Status::JournalFault, is_folder)?;
+    make_at(
+        &rt,
+        &rt,
+        None,
+        Status::JournalFault,
+        b"fault: journal: other error\n",
+    )
 }

@@ -1,13 +1,26 @@
 use Rattle.link_replay.proofs.Asking.{asks-one}
 use Rattle.link_replay.proofs.Outcomes.{causes_after, sinks_in, asked_done}
-use Rattle.link_replay.specs.Commands.{Does, FlushesLog, KeepsDisk, HasCauses, MayDo, EndsWell}
+use Rattle.link_replay.proofs.UsageTexts.{no_text}
+use Rattle.link_replay.specs.Commands.{FlushesAfter}
+use Rattle.link_replay.specs.Commands.{Does, FlushesLog, RunsSo, KeepsDisk, HasCauses, MayDo, EndsWell}
+use Rattle.link_replay.specs.UsageLines.{fault_text}
 use Rattle.{link_replay.specs.Words.Asks, command_ends.proofs.Running.runs_of}
-use Rattle.command_ends.{proofs.Running.calm_before, specs.Programs.Runs}
-use Rattle.command_ends.specs.{Outside.outside, Statuses.fault_line}
+use Rattle.command_ends.proofs.Running.{calm_before}
+use Rattle.command_ends.specs.{Outside.outside, Reasons.told_by, Programs.EndsLog}
 use Rattle.link_replay.specs.OverFiles.{outside_of}
-use Rattle.std.proofs.Common.{subst, sym}
+use Rattle.std.proofs.Common.{◌≡◌, ◌∙◌, ap, subst, sym}
 use Rattle.std.specs.{Prelude.map, String.string_bytes}
 use Rattle.link_replay.proofs.program.run.Goals as goal
+
+-- What is written last to the log is the text of the words, the reasons and the status.
+text_is : (g : _) (c : goal.After-log_fault g) → c.as_slice.result.now
+    ≡ fault_text (map string_bytes c.args.words.now)
+    (told_by g.K.TellsReason.told_reason g.S.TellsReason.told_reason g.D.TellsReason.told_reason
+    c.answer-status.new.key c.answer-status.new.streams.input c.answer-status.new.disk)
+    c.answer-status.result
+text_is g c = c.as_slice.ensures.value ∙ c.fault_text-text.ensures
+    ∙ ap (λ told. fault_text (map string_bytes c.args.words.now) told c.answer-status.result)
+    c.of-reasons.ensures
 
 pub returns-clause-usage : goal.returns-clause-usage
 returns-clause-usage g c = (
@@ -19,20 +32,29 @@ returns-clause-usage g c = (
 pub returns-clause-runs : goal.returns-clause-runs
 returns-clause-runs g c = λ asked asks.
     let same = asks-one _ _ _ c.asked_by-asked.ensures.asks asks in
-    let does = Does g.K.Source g.S.Source g.O.Sink g.L.Sink g.D.SlotDisk in
     let before = outside_of c.args.key.now c.args.streams.now c.args.disk.now in
     let ends = c.answer-status.new.streams in
     let after = outside c.answer-status.new.key ends.input ends.out c.log_fault.new.log
     c.answer-status.new.disk in
-    subst (λ a. Runs g.L.Sink fault_line does (FlushesLog g.L.Sink) a before after
+    let words = map string_bytes c.args.words.now in
+    let reasons = told_by g.K.TellsReason.told_reason g.S.TellsReason.told_reason
+    g.D.TellsReason.told_reason c.answer-status.new.key ends.input c.answer-status.new.disk in
+    let line = fault_text words reasons in
+    let does = Does g.K.Source g.S.Source g.O.Sink g.L.Sink g.D.SlotDisk in
+    let logged : EndsLog g.L.Sink ends.log c.log_fault.new.log (line c.answer-status.result) =
+    subst (EndsLog g.L.Sink ends.log c.log_fault.new.log) (text_is g c) c.log_fault.ensures.ends in
+    let flushed : FlushesAfter g.L.Sink c.asked_by-asked.result ends.log c.log_fault.new.log
+    (line c.answer-status.result) =
+    subst (FlushesAfter g.L.Sink c.asked_by-asked.result ends.log c.log_fault.new.log)
+    (text_is g c) c.log_fault.ensures.flushes in
+    subst (λ a. RunsSo g.K.Source g.S.Source g.O.Sink g.L.Sink g.D.SlotDisk line a before after
     c.answer-status.result) same
-    (runs_of g.L.Sink fault_line does (FlushesLog g.L.Sink) c.asked_by-asked.result before after
-    ends.log c.answer-status.result _ _ c.answer-status.result (λ none. none)
-    c.answer-status.ensures.does
+    (runs_of g.L.Sink line does (FlushesLog g.L.Sink line) c.asked_by-asked.result before after
+    ends.log c.answer-status.result _ _ c.answer-status.result
+    (no_text words reasons c.answer-status.result) c.answer-status.ensures.does
     (sinks_in g.K.Source g.S.Source g.O.Sink g.L.Sink g.D.SlotDisk c.asked_by-asked.result
     before (outside_of c.answer-status.new.key ends c.answer-status.new.disk)
-    c.answer-status.result c.answer-status.ensures.causes) c.log_fault.ensures.ends
-    c.log_fault.ensures.flushes)
+    c.answer-status.result c.answer-status.ensures.causes) logged flushed)
 
 pub returns-clause-any_moment : goal.returns-clause-any_moment
 returns-clause-any_moment g c = λ asked asks.
@@ -49,7 +71,8 @@ returns-clause-causes g c = λ asked asks.
     subst (λ a. HasCauses g.K.Source g.S.Source g.O.Sink g.L.Sink g.D.SlotDisk a before after
     c.answer-status.result) same
     (causes_after g.K.Source g.S.Source g.O.Sink g.L.Sink g.D.SlotDisk c.asked_by-asked.result
-    before after ends.log c.answer-status.result
+    before after ends.log c.answer-status.result c.as_slice.result.now
+    (λ none. text_is g c ∙ no_text _ _ c.answer-status.result none)
     c.answer-status.ensures.causes c.log_fault.ensures.ends c.log_fault.ensures.flushes)
 
 pub returns-clause-done : goal.returns-clause-done

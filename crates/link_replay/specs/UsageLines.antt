@@ -1,0 +1,62 @@
+-- What the program says last on the log: its fault line, and after words that fit no command the
+-- words that the command wants.
+use Rattle.std.specs.Prelude.{ℕ, List, [], ◌∷◌, ◌++◌, map, codes, bytes_eq, Option, Some, None}
+use Rattle.std.specs.Prelude.{if◌then◌else◌}
+use Rattle.std.specs.List.{filter_map, concat}
+use Rattle.link_format.specs.declared.dir.Dir.TheVariants.{Ab}
+use Rattle.two_wire.specs.declared.gate.Side.TheVariants.{Asks}
+use Rattle.command_ends.specs.Statuses.{fault_line}
+use Rattle.command_ends.specs.declared.link.Profile.TheVariants.{Y18}
+use Rattle.command_ends.specs.declared.link.Proto.TheVariants.{Rtu}
+use Rattle.command_ends.specs.declared.reasons.Reasons.{Reasons}
+use Rattle.command_ends.specs.declared.status.Status.{Status}
+use Rattle.command_ends.specs.declared.status.Status.TheVariants.{Usage}
+use Rattle.link_replay.specs.AboutCommands.{named_words}
+use Rattle.link_replay.specs.declared.words.Command.{Command}
+use Rattle.link_replay.specs.declared.words.Command.TheVariants.{Init, Read, Vectors, Seal, Check}
+use Rattle.link_replay.specs.declared.words.Command.TheVariants.{Replay, Trial, Poll, Space}
+use Rattle.link_replay.specs.declared.words.Command.TheVariants.{Audit, Duplex, LiveSeal, LiveCheck}
+use Rattle.link_replay.specs.declared.words.Command.TheVariants.{TwoWire, Help, Version}
+
+-- each first word of a command, and a command that has it: what else the command has doesn't matter
+abbrev pub first_words : List (List ℕ × Command)
+first_words = (codes "read", Read Rtu) ∷ (codes "init", Init Rtu Y18 Ab)
+    ∷ (codes "seal", Seal Rtu Y18 Ab) ∷ (codes "check", Check Rtu Y18 Ab)
+    ∷ (codes "live", LiveSeal Rtu Y18 Ab) ∷ (codes "live", LiveCheck Rtu Y18 Ab)
+    ∷ (codes "space", Space Rtu Y18) ∷ (codes "replay", Replay Rtu Y18 Ab)
+    ∷ (codes "audit", Audit Rtu Y18 Ab 0 0) ∷ (codes "duplex", Duplex Rtu Y18 Ab)
+    ∷ (codes "two_wire", TwoWire Rtu Y18 Ab Asks (record { window = 0; pause = 0 }))
+    ∷ (codes "trial", Trial Rtu Y18 0 0) ∷ (codes "poll", Poll Rtu Y18 0 0)
+    ∷ (codes "vectors", Vectors) ∷ (codes "help", Help) ∷ (codes "version", Version) ∷ []
+
+-- the line of a command: the words that ask for it, as the page of `help` names them
+abbrev pub usage_line : Command → List ℕ
+usage_line command = codes "usage: link_replay " ++ named_words command ++ codes "\n"
+
+-- the line of a command, if this is its first word
+abbrev pub line_if : List ℕ → List ℕ × Command → Option (List ℕ)
+line_if word (first, command) = if bytes_eq word first then Some (usage_line command) else None
+
+-- the line that lists the commands
+abbrev pub commands_line : List ℕ
+commands_line = codes "commands: read init seal check live space replay audit duplex two_wire "
+    ++ codes "trial poll vectors help version\n"
+
+-- these lines, or the list of the commands if there are none
+abbrev pub or_commands : List (List ℕ) → List ℕ
+or_commands [] = commands_line
+or_commands (line ∷ lines) = concat (line ∷ lines)
+
+-- for a first word the lines of the commands that have it, or the list of the commands
+abbrev pub usage_lines : List ℕ → List ℕ
+usage_lines word = or_commands (filter_map (line_if word) first_words)
+
+-- what is said of words that fit no command
+abbrev pub usage_text : List (List ℕ) → List ℕ
+usage_text [] = codes "fault: usage\n" ++ commands_line
+usage_text (word ∷ words) = codes "fault: usage\n" ++ usage_lines word
+
+-- What a run with these words writes last to the log, by the reasons that its objects tell.
+abbrev pub fault_text : List (List ℕ) → Reasons → Status → List ℕ
+fault_text words told Usage = usage_text words
+fault_text words told status = fault_line told status
