@@ -795,6 +795,6 @@ fn makes_no_journal_where_no_file_can_stand(rt: HostRuntime) -> Result<(), Fail>
         &rt,
         None,
         Status::JournalFault,
-        b"fault: journal: other error\n",
+        b"fault: journal: no such file\n",
     )
 }
