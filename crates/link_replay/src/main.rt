@@ -6,42 +6,14 @@
 //!     link_replay seal rtu ab key.txt sent.journal < line.ticks > link.ticks
 #![tactic(auto)]
 
-#[cfg(test)]
-mod about_tests;
-#[cfg(test)]
-mod audit_tests;
 mod commands;
-#[cfg(test)]
-mod duplex_tests;
-#[cfg(test)]
-mod failing;
-#[cfg(test)]
-mod live_tests;
-#[cfg(test)]
-mod long_recordings;
 mod over_files;
-#[cfg(test)]
-mod over_files_tests;
-#[cfg(test)]
-mod poll_tests;
 mod program;
 #[cfg(test)]
-mod recording_tests;
-#[cfg(test)]
-mod running;
-#[cfg(test)]
-mod settling;
-#[cfg(test)]
-mod space_tests;
+mod rows;
 #[cfg(test)]
 mod tests;
-#[cfg(test)]
-mod trial_tests;
-#[cfg(test)]
-mod two_wire_tests;
 mod usage;
-#[cfg(test)]
-mod usage_tests;
 mod words;
 
 pub use command_ends::{NOT_GIVEN, Profile, Proto, Usage};
