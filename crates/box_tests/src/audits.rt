@@ -16,9 +16,6 @@ const READ_TEN_REGISTERS: &[u8] = b"\x01\x03\x00\x00\x00\x0a\xc5\xcd";
 
 const READ_ONE_REGISTER: &[u8] = b"\x01\x03\x00\x00\x00\x01\x84\x0a";
 
-// The request for ten registers, with another last byte.
-const SPOILED: &[u8] = b"\x01\x03\x00\x00\x00\x0a\xc5\xcc";
-
 const RESET_LINK: &[u8] = b"\x05\x64\x05\xc0\x01\x00\x00\x04\xe9\x21";
 
 // Words and tags. The tags are by openssl:
@@ -32,8 +29,6 @@ const TEN_AS_1: &[u8] = b"\x00\x01\x01\x4c\x5b\x8d\x33\xc6\xd2\x9a\x34\x70\x13\x
 const ONE_AS_1: &[u8] = b"\x00\x01\xec\x3b\xeb\x0f\x43\xa9\xc8\x25\xb9\x48\xc8\x40";
 
 const ONE_AS_2: &[u8] = b"\x00\x02\xee\x5b\x1d\x1d\x6f\xc1\x59\xaf\x24\x11\xae\xb5";
-
-const TEN_AS_6: &[u8] = b"\x00\x06\xbf\xfa\x8b\xcd\x3f\x6a\xd2\x32\xde\x11\x82\x0a";
 
 const WIDE_TEN_AS_1: &[u8] =
     b"\x00\x00\x00\x01\x65\xd2\x45\xba\x10\x95\x09\xaa\x6c\x32\xac\x3c\xfa\x22\x8f\xd6";
@@ -227,72 +222,6 @@ fn finds(
 
 const SENT: &[Part<'static>] = &[Bytes(READ_TEN_REGISTERS), Silence(40)];
 
-const PACKET_1: &[Part<'static>] = &[
-    Bytes(READ_TEN_REGISTERS),
-    Silence(3),
-    Bytes(TEN_AS_1),
-    Silence(47),
-];
-
-const GOT: &[Part<'static>] = &[Silence(18), Bytes(READ_TEN_REGISTERS), Silence(366)];
-
-const REFUSED: &[Part<'static>] = &[Silence(18), Bytes(SPOILED), Silence(366)];
-
-// One frame, its packet, and what the receiver sends of it.
-#[test]
-fn an_untouched_link_is_clean(rt: HostRuntime) -> Result<(), Fail> {
-    let all = Recorded {
-        device: SENT,
-        link: PACKET_1,
-        received: GOT,
-    };
-    let clean = Verdict {
-        counts: counts(1, 1, 1),
-        finding: Wanted::Clean,
-    };
-    finds(&rt, rt.alloc(), session_of(Link::Rtu, 0, 0), all, clean)
-}
-
-// The packet passes, but on the line of the device that receives the frame is spoiled.
-#[test]
-fn a_spoiled_frame_differs_at_place_0(rt: HostRuntime) -> Result<(), Fail> {
-    let all = Recorded {
-        device: SENT,
-        link: PACKET_1,
-        received: REFUSED,
-    };
-    let differs = Verdict {
-        counts: counts(1, 1, 0),
-        finding: Wanted::Differs {
-            place: 0,
-            expected: Some(Frame {
-                start: 18,
-                bytes: READ_TEN_REGISTERS,
-            }),
-            found: None,
-        },
-    };
-    finds(&rt, rt.alloc(), session_of(Link::Rtu, 0, 0), all, differs)
-}
-
-// Nothing was sealed, and yet a packet passed.
-#[test]
-fn a_packet_of_no_frame_is_forged(rt: HostRuntime) -> Result<(), Fail> {
-    let all = Recorded {
-        device: &[Silence(48)],
-        link: PACKET_1,
-        received: GOT,
-    };
-    let forged = Verdict {
-        counts: counts(0, 1, 1),
-        finding: Wanted::Forged {
-            number: 1,
-            start: 0,
-        },
-    };
-    finds(&rt, rt.alloc(), session_of(Link::Rtu, 0, 0), all, forged)
-}
-
 // A frame was sealed with the number, but another frame passed with it.
 #[test]
 fn a_number_alone_does_not_tell(rt: HostRuntime) -> Result<(), Fail> {
@@ -445,78 +374,6 @@ fn places_are_counted_from_0(rt: HostRuntime) -> Result<(), Fail> {
         finds_received(&rt, rt.alloc(), row)?;
     }
     Ok(())
-}
-
-// A packet that was lost is missing on both sides of the receiver, so the session is clean.
-#[test]
-fn a_lost_packet_is_clean(rt: HostRuntime) -> Result<(), Fail> {
-    let all = Recorded {
-        device: SENT,
-        link: &[Silence(90)],
-        received: &[Silence(400)],
-    };
-    let clean = Verdict {
-        counts: counts(1, 0, 0),
-        finding: Wanted::Clean,
-    };
-    finds(&rt, rt.alloc(), session_of(Link::Rtu, 0, 0), all, clean)
-}
-
-// In silence alone no frame is sealed, passed or read, which is no clean session.
-#[test]
-fn silence_alone_is_empty(rt: HostRuntime) -> Result<(), Fail> {
-    let all = Recorded {
-        device: &[Silence(40)],
-        link: &[Silence(90)],
-        received: &[],
-    };
-    let empty = Verdict {
-        counts: counts(0, 0, 0),
-        finding: Wanted::Empty,
-    };
-    finds(&rt, rt.alloc(), session_of(Link::Rtu, 0, 0), all, empty)
-}
-
-// Both boxes go on from their floors. Number 6 is sealed after floor 5. It passes after floor 2,
-// and doesn't after floor 6. After floor 2 the frame is sealed with number 3, so a packet with
-// number 6 is forged.
-#[test]
-fn numbers_go_on_from_the_floors(rt: HostRuntime) -> Result<(), Fail> {
-    let all = Recorded {
-        device: SENT,
-        link: &[
-            Bytes(READ_TEN_REGISTERS),
-            Silence(3),
-            Bytes(TEN_AS_6),
-            Silence(47),
-        ],
-        received: GOT,
-    };
-    let clean = Verdict {
-        counts: counts(1, 1, 1),
-        finding: Wanted::Clean,
-    };
-    finds(&rt, rt.alloc(), session_of(Link::Rtu, 5, 2), all, clean)?;
-    let forged = Verdict {
-        counts: counts(1, 1, 1),
-        finding: Wanted::Forged {
-            number: 6,
-            start: 0,
-        },
-    };
-    finds(&rt, rt.alloc(), session_of(Link::Rtu, 2, 5), all, forged)?;
-    let read = Verdict {
-        counts: counts(1, 0, 1),
-        finding: Wanted::Differs {
-            place: 0,
-            expected: None,
-            found: Some(Frame {
-                start: 18,
-                bytes: READ_TEN_REGISTERS,
-            }),
-        },
-    };
-    finds(&rt, rt.alloc(), session_of(Link::Rtu, 5, 6), all, read)
 }
 
 /// A clean session of one frame: its link, the floor of both boxes, and its recordings.

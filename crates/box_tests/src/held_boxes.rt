@@ -2,14 +2,13 @@
 //! the caller must write, and slots that hold no journal.
 use any_box::{AnyNote, Commit, HeldBox, HeldStep, Kind, Part, Profile, Proto};
 use check_receiver::{CheckNote, RefusedWhy};
-use frame_ending::RunBytes;
 use link_format::Dir;
 use seal_transmitter::SealNote;
 use sequence_journal::{LoadError, slot_of};
 use std::alloc::{AllocError, Global};
 use std::test::Fail;
 use yasir_io::{SLOT_LEN, Slot, SlotBytes};
-use yasir_ticks::{Tick, TickRun};
+use yasir_ticks::Tick;
 
 const KEY: u128 = 0x000102030405060708090a0b0c0d0e0f;
 
@@ -301,57 +300,6 @@ fn slots_without_a_journal_are_refused(rt: HostRuntime) -> Result<(), Fail> {
         let kind = packet.kind(Part::Checker);
         assert!(rt; refuses_blank(kind));
         assert!(rt; refuses_other_link(kind));
-    }
-    Ok(())
-}
-
-// Gives a box these ticks: those that it takes at once as a run, and the others by steps. Adds the
-// ticks of the other line to `other`, and returns how many runs and steps it took.
-fn take_run(held: &mut HeldBox, run: TickRun<'_>, other: &mut Vec<Tick>) -> Result<usize, Fail> {
-    let mut sent = RunBytes::new();
-    let mut following = run;
-    for turns in 0..100 {
-        if following.is_empty() {
-            return Ok(turns);
-        }
-        let taken = held.take_alike(following, &mut sent);
-        if taken > 0 {
-            add(other, sent.as_slice(), taken.saturating_sub(sent.len()))?;
-            following = following.behind(taken);
-            continue;
-        }
-        other.push(step_of(held, following.first())?.tick)?;
-        following = following.behind(1);
-    }
-    Err("a run has more than 100 parts".into())
-}
-
-// Gives a box the frame of a packet and then 60 silent ticks, by runs. Whether each run takes few
-// turns.
-fn takes_few_turns(
-    held: &mut HeldBox,
-    packet: &Packet,
-    other: &mut Vec<Tick>,
-) -> Result<bool, Fail> {
-    let first = take_run(held, TickRun::Bytes(packet.frame), other)?;
-    let second = take_run(held, TickRun::Silence(60), other)?;
-    Ok(first <= 10 && second <= 10)
-}
-
-// Whether a new transmitter makes this link of the packet's frame by runs, in few turns.
-fn is_sealed_by_runs(alloc: Global, packet: &Packet, link: &[Tick]) -> Result<bool, Fail> {
-    let mut sealer = packet.made(Part::Sealer)?;
-    let mut other = Vec::new(alloc);
-    let few = takes_few_turns(&mut sealer, packet, &mut other)?;
-    Ok(few && other.as_slice() == link && sealer.ticks() == other.len() as u64)
-}
-
-// Runs give the same other line as steps, and take few turns.
-#[test]
-fn runs_are_taken_as_their_ticks(rt: HostRuntime) -> Result<(), Fail> {
-    for packet in &PACKETS {
-        let link = packet.link_line(rt.alloc())?;
-        assert!(rt; is_sealed_by_runs(rt.alloc(), packet, link.as_slice())?);
     }
     Ok(())
 }

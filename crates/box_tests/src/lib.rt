@@ -1,5 +1,4 @@
-//! Tests of the transmitter, of boxes of links that the program doesn't have, of a box of any kind,
-//! and of the audit.
+//! Tests of boxes of links that the program doesn't have, of a box of any kind, and of the audit.
 //!
 //! They are proved apart from the crates that they test, since a crate with tests is proved twice.
 #![tactic(auto)]
@@ -8,10 +7,6 @@
 mod audits;
 #[cfg(test)]
 mod held_boxes;
-#[cfg(test)]
-mod seal_runs;
-#[cfg(test)]
-mod sealing;
 #[cfg(test)]
 mod third_links;
 #[cfg(test)]

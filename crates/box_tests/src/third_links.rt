@@ -2,7 +2,6 @@
 //! and of three.
 ghost use Rattle.std.specs.Prelude.{◌<◌, length};
 
-use crate::sealing::KEY;
 use crate::third_rules::ThirdRules;
 use check_receiver::Checker;
 use link_box::LinkBox;
@@ -13,6 +12,9 @@ use std::alloc::Global;
 use std::test::Fail;
 use yasir_io::{Slot, SlotBytes, SteadySlots};
 use yasir_ticks::Tick;
+
+/// The key of these boxes.
+const KEY: u128 = 0x000102030405060708090a0b0c0d0e0f;
 
 /// What a box has made of a line: the other line, and the slot into which it wrote last.
 #[derive(Drop)]

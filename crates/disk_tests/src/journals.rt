@@ -1,10 +1,5 @@
 //! Tests of slots, numbers and journals, over disks whose calls fail.
-ghost use Rattle.std.specs.Prelude.{◌≡◌, ◌+◌, ◌≤◌, ℕ, [], ◌∷◌, List, Some, IfSome};
-ghost use Rattle.yasir_io.specs.Disks.{Slots, OneImage};
 ghost use Rattle.sequence_journal.specs.Journal.{Fits};
-ghost use Rattle.sequence_journal.specs.Links.{HasDirection};
-ghost use Rattle.sequence_journal.specs.Slots.{floor_of};
-ghost use Rattle.sequence_journal.specs.Uptimes.{Step, answered_in, EndsInside, IsIdle, AreUptimes};
 
 use sequence_journal::laws::{failed_calls_keep_images, numbers_rise, uptime_ends_at_any_moment};
 use sequence_journal::{
@@ -283,11 +278,6 @@ fn floor_in<D: SlotDisk>(disk: &mut D) -> Option<u64> {
     }
 }
 
-// The floor that is loaded from a disk with these slots.
-fn floor_left(alloc: Global, slots: &Contents) -> Result<Option<u64>, Fail> {
-    Ok(floor_in(&mut disk_of(alloc, slots, 0)?))
-}
-
 // Why no journal is loaded from a disk.
 fn refusal<D: SlotDisk>(disk: &mut D) -> Option<LoadError> {
     Journal::load(disk, &RTU_AB).err()
@@ -393,85 +383,6 @@ fn other_disks_are_refused(rt: HostRuntime) -> Result<(), Fail> {
     Ok(())
 }
 
-#[test]
-fn a_slot_of_a_third_protocol_is_another_links(rt: HostRuntime) -> Result<(), Fail> {
-    let slot = slot_of(5, &THIRD_AB_20);
-    let mut disk = disk_with(rt.alloc(), ([0; 16], [0; 16], slot, [0; 24]), 0)?;
-    assert!(rt; refusal(&mut disk) == Some(LoadError::WrongLink { slot }));
-    Ok(())
-}
-
-// Which call fails, whether the commit is done, what slot B then has, and the floor that a later
-// run loads.
-type CommitRow = (u32, bool, Content, u64);
-
-// Call 5 is the write and call 6 the sync.
-const COMMITS: [CommitRow; 3] = [
-    (5, false, Ones, 5),
-    (6, false, Own(6), 6),
-    (7, true, Own(6), 6),
-];
-
-// Whether number 6 is committed after number 5 if `done` says so.
-fn commits_six<D: SlotDisk>(disk: &mut D, done: bool) -> bool {
-    let Ok(mut journal) = Journal::load(disk, &RTU_AB) else {
-        return false;
-    };
-    let floor = if done { 6 } else { 5 };
-    journal.floor() < 6
-        && journal.commit(disk, 6).is_ok() == done
-        && (journal.broken(), journal.floor()) == (!done, floor)
-}
-
-// Whether a commit of number 6 after number 5 does what the row says.
-fn keeps_the_floor(alloc: Global, row: &CommitRow) -> Result<bool, Fail> {
-    let (fail, done, b, later) = *row;
-    let left = (Blank, Blank, Own(5), b);
-    let floor = floor_left(alloc, &left)?;
-    let mut disk = new_disk_of(alloc, Own(5), Ones, fail)?;
-    Ok(commits_six(&mut disk, done) && has_slots(&disk, &left) && floor == Some(later))
-}
-
-// Whether nothing is loaded if call `fail` fails.
-fn load_fails(alloc: Global, fail: u32) -> Result<bool, Fail> {
-    let mut disk = new_disk_of(alloc, Own(5), Ones, fail)?;
-    Ok(refusal(&mut disk) == Some(LoadError::Fault))
-}
-
-#[test]
-fn a_fault_of_a_commit_keeps_the_floor(rt: HostRuntime) -> Result<(), Fail> {
-    for row in &COMMITS {
-        assert!(rt; keeps_the_floor(rt.alloc(), row)?);
-    }
-    for fail in 1..5 {
-        assert!(rt; load_fails(rt.alloc(), fail)?);
-    }
-    Ok(())
-}
-
-// Whether the floor stays 5 if call `fail` fails while number 5 of an old slot is taken over, and
-// slot A has this then.
-fn stays_at_five(alloc: Global, fail: u32, a: Content) -> Result<bool, Fail> {
-    let mut disk = disk_of(alloc, &(Own(5), Ones, Blank, Blank), fail)?;
-    Ok(
-        refusal(&mut disk) == Some(LoadError::Fault)
-            && has_slots(&disk, &(Own(5), Ones, a, Blank))
-            && floor_in(&mut disk) == Some(5),
-    )
-}
-
-#[test]
-fn a_fault_of_a_taking_over_keeps_the_floor(rt: HostRuntime) -> Result<(), Fail> {
-    // Call 5 is the write and call 6 the sync.
-    assert!(rt; stays_at_five(rt.alloc(), 5, Blank)?);
-    assert!(rt; stays_at_five(rt.alloc(), 6, Own(5))?);
-    // A slot that a crash tore. It holds no number, or reads as one for another link.
-    assert!(rt; floor_left(rt.alloc(), &(Own(5), Ones, Ones, Blank))? == Some(5));
-    let torn = ((Own(5), Ones, Another(9), Blank), Some(9));
-    assert!(rt; is_refused(rt.alloc(), &torn)?);
-    Ok(())
-}
-
 // Slots with a number, for whatever link, and the floor that is found.
 type StandingRow = (Contents, u64);
 
@@ -530,108 +441,5 @@ fn a_new_journal_stands_at_zero(rt: HostRuntime) -> Result<(), Fail> {
     for row in &INIT_FAULTS {
         assert!(rt; init_fails(rt.alloc(), row)?);
     }
-    Ok(())
-}
-
-// An uptime that commits the next number, and ends inside the commit of the one after it, whose
-// result nobody hears. Returns the first of the two numbers.
-fn answer_one<D: SlotDisk>(disk: &mut D, link: &LinkId) -> Option<u64>
-    requires { HasDirection link.now }
-    ensures next { IfSome result (λ n. (begins : Slots) (floor : ℕ) → D.told disk.old ≡ Some begins
-        → floor_of link.now begins ≡ Some floor → n ≡ floor + 1) }
-    ensures ends { IfSome result (λ n. (begins : Slots) (floor : ℕ) → D.told disk.old ≡ Some begins
-        → floor_of link.now begins ≡ Some floor → OneImage (D.told disk.old) (D.may_leave disk.old)
-        → (loaded : D) × (done : List (Step D)) × (answered_in done ≡ n ∷ [])
-        × ((image : Slots) → D.may_leave disk.new image
-        → EndsInside D.SlotDisk link.now floor loaded done image)) }
-{
-    let Ok(mut journal) = Journal::load(disk, link) else {
-        return None;
-    };
-    let number = journal.floor() + 1;
-    if number >= LIMIT {
-        return None;
-    }
-    let Ok(()) = journal.commit(disk, number) else {
-        return None;
-    };
-    let _ = journal.commit(disk, number + 1);
-    Some(number)
-}
-
-// An uptime that ends inside its load, whose result nobody hears.
-fn answer_none<D: SlotDisk>(disk: &mut D, link: &LinkId)
-    requires { HasDirection link.now }
-    ensures idle { (begins image : Slots) (floor : ℕ) → D.told disk.old ≡ Some begins
-        → floor_of link.now begins ≡ Some floor → OneImage (D.told disk.old) (D.may_leave disk.old)
-        → D.left_since disk.new (D.moment disk.old) image → IsIdle link.now begins [] image }
-{
-    let _ = Journal::load(disk, link);
-}
-
-// Two uptimes as in `answer_one`. The second one begins on an image that the first one left.
-fn answer_twice<D: SlotDisk>(first: &mut D, second: &mut D, link: &LinkId) -> Option<(u64, u64)>
-    requires { HasDirection link.now }
-    ensures are_uptimes { IfSome result (λ n. (begins image last : Slots) (floor : ℕ)
-        → D.told first.old ≡ Some begins → floor_of link.now begins ≡ Some floor
-        → OneImage (D.told first.old) (D.may_leave first.old)
-        → D.may_leave first.new image → D.told second.old ≡ Some image
-        → OneImage (D.told second.old) (D.may_leave second.old) → D.may_leave second.new last
-        → AreUptimes link.now begins (record { numbers = n.0 ∷ []; image = image }
-        ∷ record { numbers = n.1 ∷ []; image = last } ∷ [])) }
-{
-    let n = answer_one(first, link)?;
-    let m = answer_one(second, link)?;
-    Some((n, m))
-}
-
-// The number of an uptime as in `answer_one`, for the link `RTU_AB`.
-fn one_number<D: SlotDisk>(disk: &mut D) -> Option<u64> {
-    answer_one(disk, &RTU_AB)
-}
-
-// The numbers of two uptimes as in `answer_twice`, for the link `RTU_AB`.
-fn two_numbers<D: SlotDisk>(first: &mut D, second: &mut D) -> Option<(u64, u64)> {
-    answer_twice(first, second, &RTU_AB)
-}
-
-// A disk that a crash in the write of 2 into slot A has left. It may leave anything there, such as
-// this.
-fn torn_disk(alloc: Global) -> Result<MemSlots, Fail> {
-    let torn = bytes_of(&[2, 0x01001202_ffffffff, 0xffffffff_feffedfd]);
-    disk_with(alloc, ([0; 16], [0; 16], torn, Own(1).bytes()), 0)
-}
-
-// Whether two uptimes return 1 and 2, and the first of them leaves 1 in slot B.
-fn return_one_and_two(first: &mut MemSlots, second: &mut MemSlots) -> bool {
-    two_numbers(first, second) == Some((1, 2)) && has_slots(first, &(Blank, Blank, Own(0), Own(1)))
-}
-
-#[test]
-fn an_uptime_ends_inside_a_commit(rt: HostRuntime) -> Result<(), Fail> {
-    // Call 7 is the write of 2 into slot A.
-    let mut first = new_disk_of(rt.alloc(), Own(0), Blank, 7)?;
-    assert!(rt; return_one_and_two(&mut first, &mut torn_disk(rt.alloc())?));
-    Ok(())
-}
-
-// An uptime as in `answer_none`. Call 5 is the write of 5 into slot A.
-fn end_inside_a_load(alloc: Global) -> Result<(), Fail> {
-    let mut disk = disk_of(alloc, &(Own(5), Ones, Blank, Blank), 5)?;
-    answer_none(&mut disk, &RTU_AB);
-    Ok(())
-}
-
-// Whether an uptime returns 6, and leaves it in slot B.
-fn returns_six(disk: &mut MemSlots) -> bool {
-    one_number(disk) == Some(6) && disk.slot(Slot::B) == Own(6).bytes()
-}
-
-#[test]
-fn an_uptime_ends_inside_its_load(rt: HostRuntime) -> Result<(), Fail> {
-    end_inside_a_load(rt.alloc())?;
-    // A crash in the write into slot A may leave anything there.
-    let mut second = disk_of(rt.alloc(), &(Own(5), Ones, Ones, Blank), 0)?;
-    assert!(rt; returns_six(&mut second));
     Ok(())
 }

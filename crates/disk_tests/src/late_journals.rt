@@ -4,7 +4,7 @@ ghost use Rattle.sequence_journal.specs.Late.{disk_journal, IsRising};
 ghost use Rattle.sequence_journal.specs.Ahead.{ahead_number, ahead_floor, StandsAhead};
 ghost use Rattle.sequence_journal.specs.declared.numbers.TheConstants.{LIMIT};
 
-use sequence_journal::{AheadJournal, Journal, JournalFault, LIMIT, LateJournal, LinkId, NoSlots};
+use sequence_journal::{AheadJournal, Journal, JournalFault, LIMIT, LateJournal, LinkId};
 use std::alloc::Global;
 use std::test::Fail;
 use yasir_io::{MemSlots, Plan, Slot, SlotDisk};
@@ -53,14 +53,6 @@ fn disk_of(alloc: Global, slots: Slots, fail: u32) -> Result<MemSlots, Fail> {
 // Whether the slots of a disk have this.
 fn has_slots(disk: &MemSlots, slots: Slots) -> bool {
     disk.slot(Slot::A) == bytes_of(slots.0) && disk.slot(Slot::B) == bytes_of(slots.1)
-}
-
-// The floor that is loaded from a disk with these slots.
-fn floor_left(alloc: Global, slots: Slots) -> Result<Option<u64>, Fail> {
-    match Journal::load(&mut disk_of(alloc, slots, 0)?, &RTU_AB) {
-        Ok(journal) => Ok(Some(journal.floor())),
-        Err(_) => Ok(None),
-    }
 }
 
 // Uses a number, if it is above the last one.
@@ -119,71 +111,6 @@ fn a_settle_leaves_what_commits_would_have_left(rt: HostRuntime) -> Result<(), F
     for row in &LATE {
         assert!(rt; settles_as(rt.alloc(), row)?);
     }
-    Ok(())
-}
-
-// The numbers that are used after 5, which call of the settle fails, the slots then, and the floor
-// that a later run loads. Calls 5 and 7 are writes, 6 and 8 syncs.
-type FaultRow = ([u64; 4], u32, Slots, u64);
-
-const FAULTS: [FaultRow; 10] = [
-    ([6, 0, 0, 0], 5, (5, 0), 5),
-    ([6, 0, 0, 0], 6, (5, 6), 6),
-    ([6, 7, 0, 0], 5, (5, 0), 5),
-    ([6, 7, 0, 0], 6, (5, 6), 6),
-    ([6, 7, 0, 0], 7, (5, 6), 6),
-    ([6, 7, 0, 0], 8, (7, 6), 7),
-    ([6, 7, 8, 0], 5, (5, 0), 5),
-    ([6, 7, 8, 0], 6, (5, 8), 8),
-    ([6, 7, 8, 0], 7, (5, 8), 8),
-    ([6, 7, 8, 0], 8, (7, 8), 8),
-];
-
-// Whether a settle that fails leaves what the row says.
-fn settle_fails(alloc: Global, row: &FaultRow) -> Result<bool, Fail> {
-    let (numbers, call, slots, floor) = *row;
-    let mut disk = disk_of(alloc, (5, 0), call)?;
-    let last = numbers[0].max(numbers[1]).max(numbers[2]);
-    let settled = settle_late(&mut disk, &numbers);
-    Ok(
-        settled == Some((last, false, false))
-            && has_slots(&disk, slots)
-            && floor_left(alloc, slots)? == Some(floor),
-    )
-}
-
-#[test]
-fn a_fault_of_a_settle_keeps_the_floor(rt: HostRuntime) -> Result<(), Fail> {
-    for row in &FAULTS {
-        assert!(rt; settle_fails(rt.alloc(), row)?);
-    }
-    Ok(())
-}
-
-// Loads a journal at 5, commits 6 and 8 in memory, follows them, and settles. Returns the last
-// number.
-fn follow_two<D: SlotDisk>(disk: &mut D) -> Option<u64> {
-    let journal = Journal::load(disk, &RTU_AB).ok()?;
-    if journal.floor() != 5 {
-        return None;
-    }
-    let mut memory = journal.in_memory();
-    let mut late = LateJournal::new(journal);
-    late.follow(&memory);
-    memory.commit(&mut NoSlots, 6).ok()?;
-    late.follow(&memory);
-    late.follow(&memory);
-    memory.commit(&mut NoSlots, 8).ok()?;
-    late.follow(&memory);
-    late.settle_all(disk).ok()?;
-    Some(late.number())
-}
-
-#[test]
-fn numbers_in_memory_are_followed(rt: HostRuntime) -> Result<(), Fail> {
-    let mut disk = disk_of(rt.alloc(), (5, 0), 9)?;
-    assert!(rt; follow_two(&mut disk) == Some(8));
-    assert!(rt; has_slots(&disk, (8, 6)));
     Ok(())
 }
 
@@ -247,36 +174,6 @@ fn goes_ahead(alloc: Global, row: &AheadRow) -> Result<bool, Fail> {
 fn a_disk_is_ahead_until_it_is_lowered(rt: HostRuntime) -> Result<(), Fail> {
     for row in &AHEAD {
         assert!(rt; goes_ahead(rt.alloc(), row)?);
-    }
-    Ok(())
-}
-
-// Which call fails while 6 and 7 are used after 5, the slots then, and the floor that a later run
-// loads. Calls 5 and 6 are those of a settle, and calls 7 to 10 lower the disk.
-const AHEAD_FAULTS: [(u32, Slots, u64); 6] = [
-    (5, (5, 0), 5),
-    (6, (5, 22), 22),
-    (7, (5, 22), 22),
-    (8, (7, 22), 22),
-    (9, (7, 22), 22),
-    (10, (7, 7), 7),
-];
-
-// Whether a failing call leaves what the row says.
-fn fails_ahead(alloc: Global, row: &(u32, Slots, u64)) -> Result<bool, Fail> {
-    let (call, slots, floor) = *row;
-    let mut disk = disk_of(alloc, (5, 0), call)?;
-    Ok(
-        go_ahead(&mut disk, (6, 7), true) == Some(false)
-            && has_slots(&disk, slots)
-            && floor_left(alloc, slots)? == Some(floor),
-    )
-}
-
-#[test]
-fn a_fault_of_a_lowering_keeps_the_floor(rt: HostRuntime) -> Result<(), Fail> {
-    for row in &AHEAD_FAULTS {
-        assert!(rt; fails_ahead(rt.alloc(), row)?);
     }
     Ok(())
 }

@@ -1,6 +1,5 @@
-//! Tests of the cut of a line into bursts, tick by tick and in runs.
+//! Tests of the cut of a line into bursts.
 ghost use Rattle.std.specs.Prelude.{◌≡◌, ◌+◌, ◌<◌, ◌≤◌, length};
-ghost use Rattle.frame_ending.specs.Stands.{ticks_taken};
 
 use frame_ending::{BurstCut, Cut};
 use line_rules::{FourBytes, LineRules};
@@ -104,24 +103,6 @@ fn letters_and_burst(alloc: Global, parts: &[Part]) -> Result<(Vec<u8>, Told), F
 const QUERY: &[u8] = b"\x01\x03\x00\x00\x00\x0A\xC5\xCD";
 
 #[test]
-fn no_burst_yet(rt: HostRuntime) -> Result<(), Fail> {
-    let (letters, burst) = letters_and_burst(rt.alloc(), &[Silence(5)])?;
-    assert_eq!(rt; letters.as_slice(), b"-----".as_slice());
-    assert_eq!(rt;
-        burst,
-        Told {
-            start: 0,
-            last_live: 0,
-            live: 0,
-            extra: false,
-            over: false,
-            quiet: 4
-        }
-    );
-    Ok(())
-}
-
-#[test]
 fn one_silent_tick_between_all_bytes(rt: HostRuntime) -> Result<(), Fail> {
     let apart = [
         Silence(2),
@@ -153,30 +134,6 @@ fn one_silent_tick_between_all_bytes(rt: HostRuntime) -> Result<(), Fail> {
             extra: false,
             over: false,
             quiet: 1
-        }
-    );
-    Ok(())
-}
-
-#[test]
-fn two_silent_ticks_inside(rt: HostRuntime) -> Result<(), Fail> {
-    let parted = [
-        Bytes(b"\x01\x03\x00"),
-        Silence(2),
-        Bytes(b"\x00\x00\x0A\xC5\xCD"),
-        Silence(6),
-    ];
-    let (letters, burst) = letters_and_burst(rt.alloc(), &parted)?;
-    assert_eq!(rt; letters.as_slice(), b"sll12xxxxx123c--".as_slice());
-    assert_eq!(rt;
-        burst,
-        Told {
-            start: 0,
-            last_live: 2,
-            live: 3,
-            extra: true,
-            over: true,
-            quiet: 4
         }
     );
     Ok(())
@@ -243,76 +200,5 @@ fn a_byte_more_than_there_is_room_for(rt: HostRuntime) -> Result<(), Fail> {
             quiet: 4
         }
     );
-    Ok(())
-}
-
-// Takes the same tick `times` times, in one step each.
-fn step_times(cut: &mut BurstCut<FourBytes>, tick: Tick, times: usize)
-    requires { ticks_taken cut.old + times ≤ 1000 }
-    ensures { ticks_taken cut.new ≡ ticks_taken cut.old + times }
-{
-    for taken in 0..times {
-        cut.step(tick);
-    }
-}
-
-const BYTE: u8 = 0x41;
-
-// Returns a value that has taken this many bytes and then this many silent ticks.
-fn begun(bytes: usize, silence: usize) -> BurstCut<FourBytes>
-    requires { bytes + silence ≤ 500 }
-    ensures { ticks_taken result ≡ bytes + silence }
-{
-    let mut cut = BurstCut::new();
-    step_times(&mut cut, Tick::Byte(BYTE), bytes);
-    step_times(&mut cut, Tick::Silent, silence);
-    cut
-}
-
-// Takes this many bytes: as many as are live in a run, and the others by steps.
-fn take_by_runs(cut: &mut BurstCut<FourBytes>, len: usize)
-    requires length { len ≤ 200 }
-    requires room { ticks_taken cut.old + len ≤ 1000 }
-    ensures { ticks_taken cut.new ≡ ticks_taken cut.old + len }
-{
-    let bytes = [BYTE; 200];
-    let live = cut.go_on_some(&bytes[..len]);
-    step_times(cut, Tick::Byte(BYTE), len - live);
-}
-
-// A run of bytes, cut in two at any place, leads to the same value as its single bytes: in a burst,
-// after each length of silence, and if the room ends inside the run.
-#[test]
-fn runs_of_bytes_are_their_bytes(rt: HostRuntime) -> Result<(), Fail> {
-    for (before, silence) in [(0, 0), (1, 0), (1, 1), (1, 2), (1, 3), (1, 4), (120, 0)] {
-        for len in 0..201 {
-            let mut steps = begun(before, silence);
-            step_times(&mut steps, Tick::Byte(BYTE), len);
-            let told = burst_told(&steps);
-            for at in 0..len + 1 {
-                let mut runs = begun(before, silence);
-                take_by_runs(&mut runs, at);
-                take_by_runs(&mut runs, len - at);
-                let same = burst_told(&runs) == told;
-                assert_eq!(rt; same, true, "{len} bytes cut at {at}");
-            }
-        }
-    }
-    Ok(())
-}
-
-// A run of silence is taken at once only if no burst runs.
-#[test]
-fn runs_of_silence_are_silent_ticks(rt: HostRuntime) -> Result<(), Fail> {
-    for ticks in 0..200u32 {
-        for (silence, taken) in [(3, 0), (4, ticks), (9, ticks)] {
-            let mut cut = begun(2, silence);
-            let start = cut.ticks();
-            let told = burst_told(&cut);
-            assert_eq!(rt; cut.rest_through(ticks), taken);
-            assert_eq!(rt; cut.ticks(), start + u64::from(taken));
-            assert_eq!(rt; burst_told(&cut), told);
-        }
-    }
     Ok(())
 }

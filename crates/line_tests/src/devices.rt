@@ -217,40 +217,15 @@ const HUNTS: [Row; 3] = [
     },
 ];
 
-#[test]
-fn hunts(rt: HostRuntime) -> Result<(), Fail> {
-    rows_are_read::<DnpDevice>(&rt, rt.alloc(), &HUNTS)
-}
-
-// Returns whether a device took that many ticks of a run, and read this frame in the last of them if
-// the tick of its first byte is given, or else none.
-fn has_met<D: Device>(device: &D, met: Met, want: (usize, Option<u64>), frame: &[u8]) -> bool {
-    (met.taken, met.start) == want && (met.start.is_none() || device.frame_bytes() == frame)
-}
-
-// Returns whether this is what a device meets in runs of silence, a frame and silence again.
-fn hears_runs<D: Device + Drop>(frame: &[u8], want: &[(usize, Option<u64>); 3]) -> bool
-    requires { length frame.now < 1000 }
-{
-    let mut device = D::fresh();
-    let met = device.wait(3);
-    if !has_met(&device, met, want[0], frame) {
-        return false;
-    }
-    let met = device.hear(frame);
-    if !has_met(&device, met, want[1], frame) {
-        return false;
-    }
-    let met = device.wait(6);
-    has_met(&device, met, want[2], frame)
-}
-
-#[test]
-fn runs_of_ticks(rt: HostRuntime) {
-    assert!(rt; hears_runs::<RtuDevice>(QUERY, &[(3, None), (8, None), (4, Some(3))]));
+// Calls the laws.
+fn laws_hold() {
     forwarded_frames_are_read();
-
-    assert!(rt; hears_runs::<DnpDevice>(RESET_LINK, &[(3, None), (10, Some(3)), (6, None)]));
     hunts_by_cases::<Dnp>();
     stated_devices_are_members();
+}
+
+#[test]
+fn hunts(rt: HostRuntime) -> Result<(), Fail> {
+    laws_hold();
+    rows_are_read::<DnpDevice>(&rt, rt.alloc(), &HUNTS)
 }

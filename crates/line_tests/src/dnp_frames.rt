@@ -1,9 +1,7 @@
 //! Tests of DNP3 frames: CRCs, sizes, wrong endings, building and parsing.
 ghost use Rattle.std.specs.Prelude.{◌≤◌, length};
 
-use dnp_link_frame::{
-    Dnp, Header, NotAFrame, TooMuchData, UserBytes, build, dnp_crc, size_of, user_data,
-};
+use dnp_link_frame::{Dnp, Header, NotAFrame, TooMuchData, build, dnp_crc, size_of, user_data};
 use line_rules::{Head, LineRules};
 use std::mem;
 use std::test::Fail;
@@ -110,87 +108,6 @@ fn judged_bytes(rt: HostRuntime) {
     );
 }
 
-#[test]
-fn largest_frame_cut_at_every_length(rt: HostRuntime) {
-    let mut rules = Dnp::fresh();
-    for (k, byte) in LARGEST.iter().enumerate() {
-        let head = if k < 10 { Head::Short } else { Head::Good };
-        let lacking = if k < 10 { 0 } else { LARGEST.len() - k };
-        assert!(rt; !rules.full() && !rules.good());
-        assert_eq!(rt;
-            (rules.head(), usize::from(rules.lacking())),
-            (head, lacking)
-        );
-        rules.take(*byte);
-    }
-    assert!(rt; rules.full() && rules.good());
-    assert_eq!(rt; (rules.head(), rules.lacking()), (Head::Good, 0));
-}
-
-// Returns the byte that is sent for a last byte after these bytes, so that all of them together
-// aren't a frame.
-fn last_after<R: LineRules>(rules: &R, last: u8) -> u8 {
-    let mut all = rules.fork();
-    if !all.full() {
-        all.take(last);
-    }
-    if all.ends_right() { last ^ 1 } else { last }
-}
-
-// Returns rules that have taken these bytes, and the zeros that are sent for those that they lack.
-// The last zero is spoiled if the ending would be right.
-fn filled<R: LineRules>(bytes: &[u8]) -> R {
-    let mut rules = R::fresh();
-    rules.take_some(bytes);
-    for after in (0..rules.lacking()).rev() {
-        if rules.full() {
-            break;
-        }
-        if after == 0 && last_after(&rules, 0) == 1 {
-            rules.take(1);
-        } else {
-            rules.take(0);
-        }
-    }
-    rules
-}
-
-#[test]
-fn filled_frames_are_wrong(rt: HostRuntime) {
-    for k in 10..LARGEST.len() {
-        let rules = filled::<Dnp>(&LARGEST[..k]);
-        assert!(rt; rules.full() && !rules.good());
-    }
-
-    // zeros only would make this a whole frame
-    let rules = filled::<Dnp>(&ENDS_IN_ZEROS[..12]);
-    assert!(rt; rules.full() && !rules.good());
-}
-
-// Returns the byte that leaves for this last byte after these bytes, or `None` if there is no room
-// for it.
-fn spoiled_after<R: LineRules>(bytes: &[u8], last: u8) -> Option<u8> {
-    let mut rules = R::fresh();
-    rules.take_some(bytes);
-    if rules.full() {
-        return None;
-    }
-    Some(last_after(&rules, last))
-}
-
-#[test]
-fn spoiled_bytes(rt: HostRuntime) {
-    assert_eq!(rt; spoiled_after::<Dnp>(&RESET_LINK[..9], 0x21), Some(0x20));
-    assert_eq!(rt; spoiled_after::<Dnp>(&RESET_LINK[..9], 0x20), Some(0x20));
-    assert_eq!(rt; spoiled_after::<Dnp>(&READ_CLASS[..17], 0xE0), Some(0xE1));
-    assert_eq!(rt;
-        spoiled_after::<Dnp>(&ENDS_IN_ZEROS[..13], 0x00),
-        Some(0x01)
-    );
-    assert_eq!(rt; spoiled_after::<Dnp>(b"", 0x00), Some(0x00));
-    assert_eq!(rt; spoiled_after::<Dnp>(&RESET_LINK, 0x00), None);
-}
-
 // A value doesn't keep its bytes, of which there are up to 292.
 #[test]
 fn small_values(rt: HostRuntime) {
@@ -295,55 +212,4 @@ fn refused_places(rt: HostRuntime) {
     let mut wrong = LARGEST;
     wrong[30] ^= 1;
     assert_eq!(rt; refused_at(&wrong), Some(44));
-}
-
-// Returns a byte of a run that looks random.
-fn byte_at(seed: u32, place: u32) -> u8 {
-    let mixed = (seed ^ place.wrapping_mul(0x9E37_79B9)).wrapping_mul(0x85EB_CA6B);
-    (mixed >> 24) as u8
-}
-
-// Whether the rules say the same of bytes that come one by one, and of these bytes in two runs.
-fn same_in_runs<R: LineRules>(bytes: &[u8], cut: usize) -> bool
-    requires { cut ≤ length bytes.now }
-{
-    let mut single = R::fresh();
-    for byte in bytes {
-        if !single.full() {
-            single.take(*byte);
-        }
-    }
-    let mut runs = R::fresh();
-    let first = runs.take_some(&bytes[..cut]);
-    let second = runs.take_some(&bytes[cut..]);
-    first + second == usize::from(single.len())
-        && (runs.len(), runs.full(), runs.good(), runs.lacking())
-            == (single.len(), single.full(), single.good(), single.lacking())
-        && runs.head() == single.head()
-}
-
-// Frames, and frames with a wrong byte and one byte too many, cut at every place.
-#[test]
-fn runs_of_every_length(rt: HostRuntime) -> Result<(), Fail> {
-    for len in 0..200u32 {
-        let mut user = UserBytes::new();
-        for place in 0..len {
-            assert!(rt; user.try_push(byte_at(len, place)).is_ok());
-        }
-        let mut frame = build(&TO_OUTSTATION, user.as_slice())?;
-        for cut in 0..=frame.len() {
-            assert!(rt; same_in_runs::<Dnp>(&frame, cut));
-        }
-        assert!(rt; judged::<Dnp>(&frame).2);
-        let wrong = usize::from(byte_at(len, 300)) % frame.len().max(1);
-        if let Some(byte) = frame.get_mut(wrong) {
-            *byte ^= 0x10;
-        }
-        let _ = frame.try_push(0);
-        for cut in 0..=frame.len() {
-            assert!(rt; same_in_runs::<Dnp>(&frame, cut));
-        }
-        assert!(rt; !judged::<Dnp>(&frame).2);
-    }
-    Ok(())
 }

@@ -9,8 +9,6 @@ mod burst_turns;
 #[cfg(test)]
 mod bursts;
 #[cfg(test)]
-mod device_runs;
-#[cfg(test)]
 mod devices;
 #[cfg(test)]
 mod digits;

@@ -5,10 +5,7 @@ ghost use Rattle.yasir_ticks.specs.declared.TheConstants.{MAX_TICKS};
 
 use crate::devices::Part::{Bytes, Silence};
 use crate::devices::{LONGEST, Part, RESET_LINK};
-use crate::spacers::{
-    Answers, DnpSpacer, Row, RtuSpacer, Spaces, TWO_QUERIES, TWO_RESETS, add_run, are_answers,
-    are_ticks_of, by_ticks,
-};
+use crate::spacers::{DnpSpacer, RtuSpacer, Spaces, add_run, are_ticks_of};
 use device_model::Met;
 use std::alloc::{AllocError, Global};
 use std::process::Abort;
@@ -104,107 +101,6 @@ fn hear_run<B: Spaces>(
         let size = pieces.heard.max(1).min(following.len());
         let taken = hear_piece(spacer, following.front(size), pieces.owed, given)?;
         following = following.behind(taken);
-    }
-    Ok(())
-}
-
-fn run_of(part: &Part) -> TickRun<'static> {
-    match part {
-        Bytes(bytes) => TickRun::Bytes(bytes),
-        Silence(ticks) => TickRun::Silence((*ticks).min(1000) as u32),
-    }
-}
-
-// Hears this line, and then gives what is still owed.
-fn hear_line<B: Spaces>(
-    alloc: Global,
-    spacer: &mut B,
-    line: &[Part],
-    pieces: Pieces,
-) -> Result<Given, Fail>
-    requires { B.taken spacer.old ≡ 0 }
-{
-    let mut given = nothing_given(alloc);
-    let mut room: usize = 1000;
-    for part in line {
-        let run = run_of(part);
-        if run.len() > room {
-            return Err("a long line".into());
-        }
-        hear_run(spacer, run, pieces, &mut given)?;
-        room -= run.len();
-    }
-    give_all(spacer, None, &mut given)?;
-    Ok(given)
-}
-
-// Returns the answers of a new spacer, in which this many frames may wait, to a line that it hears
-// in pieces.
-fn by_pieces<B: Spaces>(
-    alloc: Global,
-    room: usize,
-    line: &[Part],
-    pieces: Pieces,
-) -> Result<Answers, Fail> {
-    let mut spacer = B::fresh(alloc, room)?;
-    let given = hear_line(alloc, &mut spacer, line, pieces)?;
-    Ok((given.ticks, given.lost))
-}
-
-// Returns whether a spacer that hears this line in pieces gives what another one gives that takes
-// it tick by tick, and whether this is what the row says.
-fn both_ways<B: Spaces>(
-    alloc: Global,
-    room: usize,
-    row: &Row,
-    pieces: Pieces,
-) -> Result<bool, Fail> {
-    let given = by_pieces::<B>(alloc, room, row.line, pieces)?;
-    let stepped = by_ticks::<B>(alloc, room, row.line)?;
-    Ok(given == stepped && are_answers(alloc, row, &given)?)
-}
-
-// Five resets to a spacer in which two may wait. The fourth one is read in tick 39, in which the
-// second and the third wait, so it is lost. The second one begins to leave in tick 41, so there is
-// room for the fifth, which is read in tick 49.
-const FIVE_RESETS: Row = Row {
-    line: &[
-        Bytes(RESET_LINK),
-        Bytes(RESET_LINK),
-        Bytes(RESET_LINK),
-        Bytes(RESET_LINK),
-        Bytes(RESET_LINK),
-        Silence(70),
-    ],
-    leaves: &[
-        Silence(10),
-        Bytes(RESET_LINK),
-        Silence(21),
-        Bytes(RESET_LINK),
-        Silence(21),
-        Bytes(RESET_LINK),
-        Silence(21),
-        Bytes(RESET_LINK),
-        Silence(7),
-    ],
-    lost: &[(39, 30)],
-};
-
-// Checks the rows, with lines that are heard in these pieces.
-fn rows_agree(rt: &impl Abort, alloc: Global, pieces: Pieces) -> Result<(), Fail> {
-    assert!(rt; both_ways::<RtuSpacer>(alloc, 64, &TWO_QUERIES, pieces)?);
-    assert!(rt; both_ways::<DnpSpacer>(alloc, 64, &TWO_RESETS, pieces)?);
-    assert!(rt; both_ways::<DnpSpacer>(alloc, 2, &FIVE_RESETS, pieces)?);
-    Ok(())
-}
-
-// However a line is heard and answered, the other line is the one that single ticks give.
-#[test]
-fn answers_are_those_of_ticks(rt: HostRuntime) -> Result<(), Fail> {
-    for heard in [1, 3, 7, 16, 1000] {
-        for owed in [1, 5, 12, 1000] {
-            rows_agree(&rt, rt.alloc(), Pieces { heard, owed })?;
-        }
     }
     Ok(())
 }

@@ -2,7 +2,7 @@
 use std::alloc::Global;
 use std::process::Abort;
 use std::test::Fail;
-use yasir_ticks::{BadTicks, Content, Run, Tick, TickFault, TickReader, TickRun};
+use yasir_ticks::{BadTicks, Content, Run, TickFault, TickReader};
 
 /// Texts, and the bytes and the number of silent ticks that they represent.
 const ACCEPTED: [(&[u8], &[u8], u32); 10] = [
@@ -192,10 +192,6 @@ fn reads_marks(rt: HostRuntime) -> Result<(), Fail> {
     Ok(())
 }
 
-/// A line of 32 bytes, each of them 7.
-const LINE_OF_SEVENS: [u8; 66] =
-    *b"+0707070707070707070707070707070707070707070707070707070707070707\n";
-
 /// Feeds a text to a reader in slices of `size` bytes, and ends it.
 fn read_slices(alloc: Global, marks: u8, text: &[u8], size: usize) -> Result<Seen, Fail> {
     let mut reader = TickReader::new(marks);
@@ -224,119 +220,6 @@ fn reads_slices_of_each_size(rt: HostRuntime) -> Result<(), Fail> {
         }
     }
     Ok(())
-}
-
-/// Feeds two parts of a text to a reader line by line, and ends it.
-fn read_lines(
-    rt: &impl Abort,
-    alloc: Global,
-    parts: [&[u8]; 2],
-) -> Result<Result<Seen, BadTicks>, Fail> {
-    let mut reader = TickReader::new(0);
-    let mut seen = Seen::none(alloc);
-    for part in parts {
-        let mut following = part;
-        for _ in 0..9 {
-            if following.is_empty() {
-                break;
-            }
-            assert!(rt; reader.line() < 9 && following.len() < 999);
-            let fed = reader.feed_line(following);
-            match fed.line {
-                Ok(content) => seen.take_line(content, reader.line_bytes())?,
-                Err(bad) => return Ok(Err(refused_for_good(rt, reader, bad))),
-            }
-            following = &following[fed.taken..];
-        }
-    }
-    match reader.finish() {
-        Ok(run) => seen.take(run)?,
-        Err(bad) => return Ok(Err(bad)),
-    }
-    Ok(Ok(seen))
-}
-
-/// Reads a text byte by byte, and line by line in two parts. Both must give the same.
-fn read_both_ways(rt: &impl Abort, alloc: Global, text: &[u8], cut: usize) -> Result<(), Fail> {
-    let parts = text.split_at(cut.min(text.len()));
-    let by_bytes = read(rt, alloc, 0, text)?;
-    let by_lines = read_lines(rt, alloc, [parts.0, parts.1])?;
-    match (by_bytes, by_lines) {
-        (Ok(a), Ok(b)) => {
-            assert_eq!(rt; a.bytes.as_slice(), b.bytes.as_slice());
-            assert_eq!(rt; a.silent, b.silent);
-            assert_eq!(rt; a.marks, b.marks);
-        }
-        (Err(a), Err(b)) => assert_eq!(rt; a, b),
-        _ => return Err("refused one way only".into()),
-    }
-    Ok(())
-}
-
-/// Returns the next number of a sequence that looks random.
-fn drawn(state: &mut u32) -> usize {
-    *state = state.wrapping_mul(1_664_525).wrapping_add(1_013_904_223);
-    (*state >> 8) as usize
-}
-
-/// Returns a line of `length` bytes after its sign, and two more lines.
-fn drawn_text(alloc: Global, length: usize, state: &mut u32) -> Result<Vec<u8>, Fail> {
-    let mut text = Vec::new(alloc);
-    let sign = b"++-#"[drawn(state) % 4];
-    text.push(sign)?;
-    for _ in 0..length {
-        let usual = match sign {
-            b'-' => b"0123456789"[drawn(state) % 10],
-            _ => b"0123456789abcdefABCDEF"[drawn(state) % 22],
-        };
-        let odd = b"/:@G`g \r%+-#"[drawn(state) % 12];
-        text.push(if drawn(state) % 150 == 0 { odd } else { usual })?;
-    }
-    text.extend_from_slice(if drawn(state) % 4 == 0 {
-        b"\r\n"
-    } else {
-        b"\n"
-    })?;
-    text.extend_from_slice(&LINE_OF_SEVENS)?;
-    text.extend_from_slice(b"-1000\n")?;
-    Ok(text)
-}
-
-#[test]
-fn reads_lines_as_bytes_at_each_length_and_cut(rt: HostRuntime) -> Result<(), Fail> {
-    let mut state = 7;
-    for length in 0..200 {
-        let text = drawn_text(rt.alloc(), length, &mut state)?;
-        for cut in 0..text.len() {
-            read_both_ways(&rt, rt.alloc(), text.as_slice(), cut)?;
-        }
-    }
-    Ok(())
-}
-
-#[test]
-fn refuses_a_byte_at_each_place_of_a_line(rt: HostRuntime) -> Result<(), Fail> {
-    for place in 1..66 {
-        for byte in *b"/:@G`g\r\n\x00\xff" {
-            let mut text = LINE_OF_SEVENS;
-            text[place] = byte;
-            read_both_ways(&rt, rt.alloc(), &text, 0)?;
-        }
-    }
-    Ok(())
-}
-
-#[test]
-fn cuts_runs_in_two(rt: HostRuntime) {
-    let bytes = TickRun::Bytes(b"\x05\x06\x07");
-    assert_eq!(rt; bytes.len(), 3);
-    assert_eq!(rt; bytes.first(), Tick::Byte(5));
-    assert_eq!(rt; bytes.behind(2).first(), Tick::Byte(7));
-    assert_eq!(rt; bytes.front(2).len(), 2);
-    let silence = TickRun::Silence(4);
-    assert_eq!(rt; silence.first(), Tick::Silent);
-    assert_eq!(rt; silence.behind(1).len(), 3);
-    assert!(rt; silence.front(0).is_empty());
 }
 
 /// Returns a line, followed by as many bytes as the longest line has.

@@ -1,11 +1,10 @@
 //! Tests of the receiver over links of Modbus RTU, with an attacker and with faults outside.
 use crate::outside::{Failing, STEADY};
 use crate::over_boxes::{
-    AT_0, AT_1, AT_2, AT_3, AT_LIMIT, BoxKind, FRESH, Held, KEY, NO_NUMBER, NOTHING, Reading, Row,
-    compare_all, fail_each_call, has_passed,
+    AT_0, AT_1, AT_2, AT_3, AT_LIMIT, BoxKind, FRESH, Held, KEY, NO_NUMBER, NOTHING, Row,
+    compare_all, fail_each_call,
 };
 use command_ends::Status;
-use device_model::RtuDevice;
 use link_format::Dir;
 use std::test::Fail;
 use yasir_ticks::{BadTicks, TickFault};
@@ -288,53 +287,6 @@ const ALTERED: [Row; 8] = [
 #[test]
 fn notes_how_a_link_was_altered(rt: HostRuntime) -> Result<(), Fail> {
     compare_all(&rt, rt.alloc(), BoxKind::CheckRtu, &ALTERED)
-}
-
-/// Seven packets, 100 ticks apart. The one with number 2 has an altered byte, the one with number 3
-/// comes twice, and the one with number 6 comes before the one with number 5.
-const SEVEN_PACKETS: &[u8] =
-    b"+01030000000ac5cd\n-3\n+0001014c5b8d33c6d29a347013b0\n-75\n+010300000001840b\n-3\n\
-        +0002ee5b1d1d6fc159af2411aeb5\n-75\n+1103006b00037687\n-3\n\
-        +00037f89dbbfa5b4b19474035c96\n-75\n+1103006b00037687\n-3\n\
-        +00037f89dbbfa5b4b19474035c96\n-75\n+01030000000ac5cd\n-3\n\
-        +0004e978a8dacbc39328af15b86d\n-75\n+1103006b00037687\n-3\n\
-        +0006a95674d7227aa3c4c9a7e69d\n-75\n+010300000001840a\n-3\n\
-        +0005ffc67a568388534ed1ce11e1\n-75\n";
-
-const SEVEN_NOTES: &[u8] =
-    b"passed 1 at 0 len 8\nrefused at 100 form\npassed 3 at 200 len 8\nrefused at 300 tag\n\
-        passed 4 at 400 len 8\npassed 6 at 500 len 8\nrefused at 600 tag\n";
-
-const READ: [Reading<'static>; 4] = [
-    Reading {
-        text: PACKET,
-        notes: b"passed 1 at 0 len 8\n",
-        frames: b"read at 18 01030000000ac5cd\n",
-    },
-    Reading {
-        text: b"+01030000000ac5cd\n-3\n+0001014c5b8d33c6d29a347013b1\n-47\n",
-        notes: b"refused at 0 tag\n",
-        frames: b"",
-    },
-    Reading {
-        text: b"+01030000000ac5cc\n-4\n",
-        notes: b"refused at 0 trailer\n",
-        frames: b"",
-    },
-    Reading {
-        text: SEVEN_PACKETS,
-        notes: SEVEN_NOTES,
-        frames: b"read at 18 01030000000ac5cd\nread at 218 1103006b00037687\n\
-            read at 418 01030000000ac5cd\nread at 518 1103006b00037687\n",
-    },
-];
-
-#[test]
-fn a_device_reads_what_passed(rt: HostRuntime) -> Result<(), Fail> {
-    for row in &READ {
-        has_passed::<RtuDevice>(&rt, rt.alloc(), BoxKind::CheckRtu, row)?;
-    }
-    Ok(())
 }
 
 const THREE_PACKETS: Row = Row {

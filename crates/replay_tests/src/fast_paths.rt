@@ -6,10 +6,10 @@ ghost use Rattle.yasir_ticks.specs.TickRun.{run_ticks};
 ghost use Rattle.link_box.specs.Stepping.{ServesLink};
 ghost use Rattle.yasir_ticks.specs.declared.TheConstants.{MAX_TICKS};
 
+use crate::altered_links::{Burst, NO_BURST, alike, front_with, link_of, part_at};
 use crate::fresh::{FreshJournal, fresh_disk, load_fresh};
 use crate::over_boxes::{KEY, run_ends};
 use crate::packets::{self, DNP_PACKET, LINKS, Link, RTU_PACKET, packet_of};
-use crate::receiver_runs::{Burst, NO_BURST, alike, front_with, link_of, part_at};
 use crate::texts::{add_times, repeated};
 use check_receiver::Checker;
 use command_ends::{Ends, Status};

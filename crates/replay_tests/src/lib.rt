@@ -7,6 +7,8 @@
 #![tactic(auto)]
 
 #[cfg(test)]
+mod altered_links;
+#[cfg(test)]
 mod box_parts;
 #[cfg(test)]
 mod checking;
@@ -28,12 +30,6 @@ mod over_boxes;
 mod packets;
 #[cfg(test)]
 mod reading;
-#[cfg(test)]
-mod receiver_runs;
-#[cfg(test)]
-mod receiver_steps;
-#[cfg(test)]
-mod runs;
 #[cfg(test)]
 mod sealing;
 #[cfg(test)]

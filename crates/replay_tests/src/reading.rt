@@ -2,7 +2,7 @@
 //! line.
 use crate::outside::{BYTE_BY_BYTE, Failing, STEADY, sinks, source};
 use crate::over_boxes::{has_status, holds};
-use crate::texts::{add_times, repeated};
+use crate::texts::add_times;
 use command_ends::{Status, write_fault};
 use device_model::{Device, RtuDevice};
 use line_commands::read_frames;
@@ -285,18 +285,6 @@ fn is_whole(rt: &impl Abort, alloc: Global, text: &[u8], lines: &[u8]) -> Result
 }
 
 #[test]
-fn refuses_too_much_silence(rt: HostRuntime) -> Result<(), Fail> {
-    let text = with_millions(rt.alloc(), b"", b"-1000000\n")?;
-    let long = LongText {
-        text: text.as_slice(),
-        count: 17000000,
-        fault: b"fault: too long 17000000 ticks\n",
-        lines: b"",
-    };
-    is_too_long(&rt, rt.alloc(), &long)
-}
-
-#[test]
 fn refuses_one_tick_too_much(rt: HostRuntime) -> Result<(), Fail> {
     let text = with_millions(rt.alloc(), b"+01030000000ac5cd\n", b"-777209\n")?;
     let long = LongText {
@@ -405,88 +393,5 @@ fn answers_what_failed_outside(rt: HostRuntime) -> Result<(), Fail> {
     for row in &FAILED {
         check(&rt, rt.alloc(), row, &row.outside)?;
     }
-    Ok(())
-}
-
-// Four hundred requests, twelve ticks apart.
-fn long_text(alloc: Global) -> Result<Vec<u8>, AllocError> {
-    repeated(alloc, REQUEST, 400)
-}
-
-// Adds the line that is printed for a request from tick `start` on.
-fn add_answer(alloc: Global, lines: &mut Vec<u8>, start: u32) -> Result<(), AllocError> {
-    let line = format!(in alloc; "read at {start} 01030000000ac5cd\n")?;
-    lines.extend_from_slice(line.as_bytes())?;
-    Ok(())
-}
-
-// The lines that are printed for `long_text`.
-fn long_answer(alloc: Global) -> Result<Vec<u8>, AllocError> {
-    let mut lines = Vec::new(alloc);
-    for place in 0..400u32 {
-        add_answer(alloc, &mut lines, place * 12)?;
-    }
-    Ok(lines)
-}
-
-// Checks that a front of these lines was written, and not all of them.
-fn holds_front(rt: &impl Abort, out: &MemSink, lines: &[u8]) {
-    assert!(rt; lines.starts_with(out.held()));
-    assert!(rt; out.held().len() < lines.len());
-}
-
-// Checks that a front of the lines is written if call `call` of the output fails.
-fn is_cut(
-    rt: &impl Abort,
-    alloc: Global,
-    text: &[u8],
-    call: u32,
-    lines: &[u8],
-) -> Result<(), Fail> {
-    let failing = Failing {
-        out: call,
-        ..STEADY
-    };
-    let ran = read(rt, alloc, text, &failing)?;
-    assert!(rt; ran.status == Status::WriteFault);
-    holds_front(rt, &ran.out, lines);
-    holds(rt, &ran.log, b"");
-    Ok(())
-}
-
-// Checks that all of these lines are written, or a front of them if a call of the output fails.
-fn fronts_are_written(
-    rt: &impl Abort,
-    alloc: Global,
-    text: &[u8],
-    lines: &[u8],
-) -> Result<(), Fail> {
-    is_whole(rt, alloc, text, lines)?;
-    for call in [1, 9, 20] {
-        is_cut(rt, alloc, text, call, lines)?;
-    }
-    Ok(())
-}
-
-#[test]
-fn writes_a_front_of_a_long_answer(rt: HostRuntime) -> Result<(), Fail> {
-    let text = long_text(rt.alloc())?;
-    let lines = long_answer(rt.alloc())?;
-    fronts_are_written(&rt, rt.alloc(), text.as_slice(), lines.as_slice())
-}
-
-// Checks that the first flush of a sink fails, and the second one doesn't.
-fn fails_first(rt: &impl Abort, out: &mut MemSink) {
-    assert!(rt; out.flush().is_err());
-    assert!(rt; out.flush().is_ok());
-}
-
-#[test]
-fn flushes_for_an_answer_alone(rt: HostRuntime) -> Result<(), Fail> {
-    // No call is made on the output, so the next one is its first, which fails.
-    let failing = Failing { out: 1, ..STEADY };
-    let mut ran = read(&rt, rt.alloc(), b"x", &failing)?;
-    holds(&rt, &ran.log, b"fault: line 1 char\n");
-    fails_first(&rt, &mut ran.out);
     Ok(())
 }

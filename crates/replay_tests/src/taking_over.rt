@@ -4,7 +4,6 @@ use crate::outside::{Failing, STEADY, plan};
 use crate::over_boxes::{BoxKind, Given, KEY, Ran, has_status, holds, replay_on, slots_hold};
 use command_ends::Status;
 use link_format::Dir;
-use sequence_journal::{Journal, LinkId};
 use std::alloc::Global;
 use std::process::Abort;
 use std::test::Fail;
@@ -98,47 +97,5 @@ fn is_refused(rt: &impl Abort, ran: &Ran) {
 fn slots_of_another_link_are_refused(rt: HostRuntime) -> Result<(), Fail> {
     let ran = seal_over(rt.alloc(), Dir::Ba, &NUMBER_5, &NUMBER_6, &STEADY)?;
     is_refused(&rt, &ran);
-    Ok(())
-}
-
-/// A call of the disk that fails while the journal is taken over, and what slot A holds then. Call
-/// 5 is the write, and call 6 the sync.
-const FAILED_CALLS: [(u32, [u8; 24]); 2] = [(5, BLANK), (6, NUMBER_5)];
-
-// Checks that a run sealed nothing because its journal failed, and that slot A holds `a`.
-fn has_failed(rt: &impl Abort, ran: &Ran, a: &[u8; 24]) {
-    has_status(rt, &ran.status, &Status::JournalFault, 7);
-    holds(rt, &ran.out, b"");
-    holds(rt, &ran.log, b"fault: journal\n");
-    has_slots(rt, &ran.disk, a, &BLANK);
-}
-
-// Checks that a later run loads the number of the old slots.
-fn loads_five(rt: &impl Abort, disk: &mut MemSlots) -> Result<(), Fail> {
-    let link = LinkId {
-        label: 1,
-        dir: 0,
-        profile: 18,
-    };
-    assert!(rt; Journal::load(disk, &link)?.floor() == 5);
-    Ok(())
-}
-
-// Lets this call of the disk fail while the journal is taken over. Slot A must then hold `a`.
-fn fail_taking_over(rt: &impl Abort, alloc: Global, call: u32, a: &[u8; 24]) -> Result<(), Fail> {
-    let failing = Failing {
-        disk: call,
-        ..STEADY
-    };
-    let mut ran = seal_over(alloc, Dir::Ab, &BLANK, &BLANK, &failing)?;
-    has_failed(rt, &ran, a);
-    loads_five(rt, &mut ran.disk)
-}
-
-#[test]
-fn a_taking_over_that_fails_loses_no_number(rt: HostRuntime) -> Result<(), Fail> {
-    for (call, a) in &FAILED_CALLS {
-        fail_taking_over(&rt, rt.alloc(), *call, a)?;
-    }
     Ok(())
 }
