@@ -13,8 +13,9 @@ import os, subprocess, sys, tempfile
 import built
 from killed import KEY, floor_of, old_slot_of, slot_of
 
-# A row: `$` and its words, `<` before each line of the input, `>` of the output and `!` of the log, `=` and the exit status if it isn't
-# 0, and `@` for the journal: its link or `old`, its direction, and the last number in it before and after the run.
+# A row: `$` and its words, `<` before each line of the input, `>` of the output and `!` of the log (`..` is the rest of a line), `=` and
+# the exit status if it isn't 0, and `@` for the journal: its link or `old`, its direction, and the last number in it before and after
+# the run.
 ROWS = """
 # The other profile, the other protocol, and the other direction.
 $ seal rtu24 ab KEY JOURNAL
@@ -117,12 +118,12 @@ $ seal rtu ab KEY KEY
 = 8
 $ seal rtu ab KEY missing
 < +01030000000ac5cd
-! fault: journal
+! fault: journal..
 = 7
 $ seal rtu ab missing JOURNAL
 @ rtu ab 0 0
 < +01030000000ac5cd
-! fault: read
+! fault: read..
 = 5
 
 $ space rtu
@@ -504,11 +505,13 @@ class Runs:
         journal, floors = row["@"], ()
         if journal:
             self.put_journal(*journal[:2])
-        found = self.run(row["$"], text_of(row["<"]))
+        found, log = self.run(row["$"], text_of(row["<"])), text_of(row["!"])
+        if log.endswith("..\n") and found[2].count("\n") == 1 and found[2].startswith(log[:-3]):
+            log = found[2]
         if journal:
             link, _, after = journal
             found, floors = found + (floor_of(self.journal, ("rtu" if link[0] == "old" else link[0], link[1])),), (after,)
-        self.see(row["$"], found, (row["="], text_of(row[">"]), text_of(row["!"])) + floors)
+        self.see(row["$"], found, (row["="], text_of(row[">"]), log) + floors)
 
     def refuse(self, words):
         """Checks that words fit no command, and that the words of the command that was meant are said."""

@@ -35,7 +35,7 @@ from definitions import Spec, Specs, counts_of, rests_on
 ROOT = os.path.dirname(os.path.dirname(os.path.abspath(__file__)))
 COLUMNS = ("code", "contracts", "tests", "definitions", "proofs", "edits")
 CLAUSE = re.compile(r"(pub )?(requires|ensures|ghost)\b")
-TESTS = ("disk_tests", "line_tests", "box_tests", "replay_tests")
+TESTS = ("disk_tests", "line_tests", "capture_tests", "box_tests", "replay_tests")
 HEADLINE = os.path.join("link_replay", "specs", "ReplayCommand.antt")
 RECORDS = (("the headline rests on", Spec("link_replay", "ReplayCommand", "Headline")),
            ("with all statuses of `replay` it is", Spec("link_replay", "ReplayCommand", "Replays")),

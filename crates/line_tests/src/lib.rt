@@ -1,5 +1,5 @@
 //! Tests of what lies below the boxes and beside them: tick text, frames, tags, the ring of a delay,
-//! bursts, models of devices, the spacer, the forms of captures, and key texts.
+//! bursts, models of devices, and the spacer.
 //!
 //! They are a crate of their own, since a crate with tests is proved twice.
 #![tactic(auto)]
@@ -15,17 +15,11 @@ mod digits;
 #[cfg(test)]
 mod dnp_frames;
 #[cfg(test)]
-mod dumps;
-#[cfg(test)]
 mod families;
-#[cfg(test)]
-mod keys;
 #[cfg(test)]
 mod lending;
 #[cfg(test)]
 mod owed_answers;
-#[cfg(test)]
-mod pcap;
 #[cfg(test)]
 mod rings;
 #[cfg(test)]
@@ -33,8 +27,4 @@ mod spacers;
 #[cfg(test)]
 mod tags;
 #[cfg(test)]
-mod texts;
-#[cfg(test)]
 mod tick_texts;
-#[cfg(test)]
-mod written_texts;
