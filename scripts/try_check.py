@@ -107,8 +107,8 @@ FIRST = way("a", "rtu", ["read at 0 " + REPLY], ["sealed 1 at 0 len 85"], [SEALE
 REQUESTS = way("a", "rtu", ["read at 0 01030000000ac5cd", "read at 131 01034021", "read at 156 01030000000ac5cd"],
                ["sealed 1 at 0 len 8", "unsealed at 73 form", "unsealed at 101 form", "sealed 2 at 131 len 4", "unsealed at 156 early"],
                [SEALED, FORM, EARLY], (3, 2, 2), CLOSE + "A spacer in front of the transmitter sends such frames apart (docs/FIT.md).\n")
-ONE_PAIR = ("The other way has no byte. If the line has one pair of wires, this way has requests and replies, and no box of this\n"
-            "version fits it (docs/DEVICES.md).\n\n")
+ONE_PAIR = ("The other way has no byte. If the line has one pair of wires, this way has requests and replies: give it to\n"
+            "`link_replay two_wire` (docs/USAGE.md).\n\n")
 NOTHING = way("a", "dnp3", ["none"], ["unsealed at 0 form", "unsealed at 100 form"], [FORM], (2, 0, 0)).replace("read: 2", "read: 0").replace(
     "link: 0.\n", "link: 0.\nIf you know that frames were sent, RATE or P is wrong, or their bytes lie too far apart (docs/LINE_CAPTURE.md).\n")
 

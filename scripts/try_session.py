@@ -250,7 +250,7 @@ def show_capture(bench, capture):
     for way, line in shown.items():
         pages += show_way(bench, capture, way, line) + more
     if len(shown) < len(ways):
-        print("The other way has no byte. If the line has one pair of wires, this way has requests and replies, and no box of this")
-        print("version fits it (docs/DEVICES.md).\n")
+        print("The other way has no byte. If the line has one pair of wires, this way has requests and replies: give it to")
+        print("`link_replay two_wire` (docs/USAGE.md).\n")
     draw(bench.name("capture.html"), pages)
     return is_whole

@@ -1,11 +1,11 @@
 -- What is kept of items, with one item more.
 use Rattle.{line_stamps.specs.declared.capture.CaptureByte.CaptureByte, std.proofs.Common.◌≡◌}
-use Rattle.std.proofs.Common.{◌∙◌, ℕ, ◌+◌, ◌-◌, ◌^◌, min, Bool, true, false, cond, List, [], ◌∷◌}
+use Rattle.std.proofs.Common.{◌∙◌, ℕ, ◌+◌, ◌-◌, ◌^◌, min, Bool, not, true, false, cond, List, [], ◌∷◌}
 use Rattle.std.proofs.Common.{◌++◌, Some, None, refl, sym, ap, arith, append-nil, zero, suc, length}
 use Rattle.std.proofs.{Common.take, Common.get_or, lemmas.List.Elements.filter_map-append}
 use Rattle.line_stamps.specs.declared.capture.Way.TheVariants as way
 use Rattle.line_capture.specs.Captures.{takes, byte_of, way_bytes, is_error, is_break}
-use Rattle.line_capture.specs.Captures.{is_control_line, count_of, NoError, TakesItem}
+use Rattle.line_capture.specs.Captures.{is_control_line, is_other, count_of, NoError, TakesItem}
 use Rattle.line_capture.specs.Captures.{without_wrong}
 use Rattle.line_capture.specs.declared.{collect.Kept.Kept, words.Ways.Ways}
 use Rattle.line_stamps.specs.declared.seen.{LineEvent.LineEvent, Seen.Seen}
@@ -69,6 +69,7 @@ module _ (chosen : Ways) where
     b_is = had.b_is ∙ sym (way_same way.B items (Event e) refl);
     breaks_are = b items had.breaks_are;
     lines_are = l items had.lines_are;
+    others_are = none_counted (is_other chosen) items (Event e) old.others refl had.others_are;
   }
 
 pub event_counted : (such : Seen → Bool) (e : LineEvent) (old new : ℕ) → such (Event e) ≡ true
@@ -83,40 +84,50 @@ pub event_passed : (such : Seen → Bool) (e : LineEvent) (old : ℕ) → such (
 event_passed such e old is items had = none_counted such items (Event e) old is had
 
 module _ (chosen : Ways) (old : Kept) (c : CaptureByte) where
-  -- A byte of a way that isn't taken changes nothing of what is kept.
-  pub passes_byte : takes chosen c.way ≡ false → TakesItem chosen old old (Byte c)
-  passes_byte not = λ items had. record {
+  -- A byte of a way that isn't taken is counted.
+  pub passes_byte : (others : ℕ) → takes chosen c.way ≡ false
+      → others ≡ min (old.others + 1) (2 ^ 64 - 1)
+      → TakesItem chosen old (record old { others = others }) (Byte c)
+  passes_byte others other adds = λ items had. record {
     a_is = had.a_is ∙ sym (way_same chosen way.A items (Byte c) (none way.A));
     b_is = had.b_is ∙ sym (way_same chosen way.B items (Byte c) (none way.B));
     breaks_are = none_counted is_break items (Byte c) old.breaks refl had.breaks_are;
     lines_are = none_counted is_control_line items (Byte c) old.control_lines refl had.lines_are;
+    others_are = more_counted (is_other chosen) items (Byte c) old.others others (ap not other)
+        had.others_are adds;
   }
     where
       none : (w : _) → byte_of chosen w (Byte c) ≡ None
-      none w = rw not refl
+      none w = rw other refl
 
   pub takes_a : (new : Kept) → takes chosen c.way ≡ true → c.way ≡ way.A
       → new.b.items ≡ old.b.items → new.breaks ≡ old.breaks → new.control_lines ≡ old.control_lines
-      → new.a.items ≡ old.a.items ++ c ∷ [] → TakesItem chosen old new (Byte c)
-  takes_a new taken is b breaks lines more = λ items had. record {
+      → new.others ≡ old.others → new.a.items ≡ old.a.items ++ c ∷ []
+      → TakesItem chosen old new (Byte c)
+  takes_a new taken is b breaks lines others more = λ items had. record {
     a_is = more ∙ ap (λ l. l ++ c ∷ []) had.a_is
         ∙ sym (way_one chosen way.A items (Byte c) c (rw taken (rw is refl)));
     b_is = b ∙ had.b_is ∙ sym (way_same chosen way.B items (Byte c) (rw taken (rw is refl)));
     breaks_are = none_counted is_break items (Byte c) new.breaks refl (breaks ∙ had.breaks_are);
     lines_are = none_counted is_control_line items (Byte c) new.control_lines refl
         (lines ∙ had.lines_are);
+    others_are = none_counted (is_other chosen) items (Byte c) new.others (ap not taken)
+        (others ∙ had.others_are);
   }
 
   pub takes_b : (new : Kept) → takes chosen c.way ≡ true → c.way ≡ way.B
       → new.a.items ≡ old.a.items → new.breaks ≡ old.breaks → new.control_lines ≡ old.control_lines
-      → new.b.items ≡ old.b.items ++ c ∷ [] → TakesItem chosen old new (Byte c)
-  takes_b new taken is a breaks lines more = λ items had. record {
+      → new.others ≡ old.others → new.b.items ≡ old.b.items ++ c ∷ []
+      → TakesItem chosen old new (Byte c)
+  takes_b new taken is a breaks lines others more = λ items had. record {
     a_is = a ∙ had.a_is ∙ sym (way_same chosen way.A items (Byte c) (rw taken (rw is refl)));
     b_is = more ∙ ap (λ l. l ++ c ∷ []) had.b_is
         ∙ sym (way_one chosen way.B items (Byte c) c (rw taken (rw is refl)));
     breaks_are = none_counted is_break items (Byte c) new.breaks refl (breaks ∙ had.breaks_are);
     lines_are = none_counted is_control_line items (Byte c) new.control_lines refl
         (lines ∙ had.lines_are);
+    others_are = none_counted (is_other chosen) items (Byte c) new.others (ap not taken)
+        (others ∙ had.others_are);
   }
 
 -- Items without an error, and one more that isn't an error, have no error.

@@ -11,7 +11,7 @@ use Rattle.line_capture.specs.Placed.{CountsOverlaps}
 use Rattle.line_capture.specs.Takes.{CaptureHeld, stop_outcome, read_outcome, or_else, outcome_of}
 use Rattle.line_capture.specs.Takes.{WritesTaken, TakesRead, TakesCapture}
 use Rattle.line_capture.specs.Takes.{HasOutcome}
-use Rattle.line_capture.specs.Takes.{timing_for, counts_line, WrittenLines, WrittenFront, is_whole_capture}
+use Rattle.line_capture.specs.Takes.{timing_for, taken_lines, WrittenLines, WrittenFront, is_whole_capture}
 use Rattle.line_capture.specs.Takes.HasOutcome.{same, flush_failed}
 use Rattle.line_capture.specs.Takes.TakesCapture.{no_memory as no_room, read as was_read}
 use Rattle.line_capture.specs.Takes.{TakesRead.no_memory, TakesRead.kept, WritesTaken.written}
@@ -86,7 +86,7 @@ module _ (taking : Taking) (k : Kept) (read : ReadEnd) (end : CaptureEnd) (befor
     (overlap_a : CountsOverlaps (timing_for taking k) k.a.items overlaps_a)
     (overlap_b : CountsOverlaps (timing_for taking k) k.b.items overlaps_b)
     (sum : overlaps ≡ min (overlaps_a + overlaps_b) (2 ^ 64 - 1))
-    (log : now.log ≡ append_known before.log (counts_line overlaps end k)) where
+    (log : now.log ≡ append_known before.log (taken_lines taking.ways overlaps end k)) where
   pub ends_taken : (result : Outcome) → HasOutcome (outcome_of read end a b) result
       → WritesTaken taking k read end before now result
   ends_taken result (same is) = written (record {
@@ -97,7 +97,7 @@ module _ (taking : Taking) (k : Kept) (read : ReadEnd) (end : CaptureEnd) (befor
     overlaps_b = overlaps_b;
     overlap_a = overlap_a;
     overlap_b = overlap_b;
-    log = log ∙ ap (λ n. append_known before.log (counts_line n end k)) sum;
+    log = log ∙ ap (λ n. append_known before.log (taken_lines taking.ways n end k)) sum;
     outcome_is = is;
   })
   ends_taken result (flush_failed done is) = failed is (record {
@@ -112,7 +112,7 @@ module _ (taking : Taking) (k : Kept) (read : ReadEnd) (end : CaptureEnd) (befor
     (lines : WrittenLines t taking.ways k before.out out_now a b)
     (overlaps : ℕ) (log_mid : Option (List ℕ)) (log_same : log_mid ≡ before.log)
     (text items : List ℕ) (text_is : text ≡ items)
-    (items_are : items ≡ counts_line overlaps end k) where
+    (items_are : items ≡ taken_lines taking.ways overlaps end k) where
   lines_are : WrittenLines (timing_for taking k) taking.ways k before.out out_now a b
   lines_are = subst (λ u. WrittenLines u taking.ways k before.out out_now a b) timing lines
 

@@ -1,5 +1,5 @@
 -- What is kept of a capture.
-use Rattle.std.specs.Prelude.{◌≡◌, ℕ, ◌+◌, ◌-◌, ◌*◌, ◌^◌, min, nat_lt, ◌==◌, ◌&&◌, ◌||◌, Bool, true, false}
+use Rattle.std.specs.Prelude.{◌≡◌, ℕ, ◌+◌, ◌-◌, ◌*◌, ◌^◌, min, nat_lt, ◌==◌, ◌&&◌, ◌||◌, Bool, not, true, false}
 use Rattle.std.specs.Prelude.{if◌then◌else◌, List, [], ◌∷◌, ◌++◌, length, Option, Some, None}
 use Rattle.std.specs.List.{filter_map}
 use Rattle.line_stamps.specs.Parts.{character}
@@ -59,6 +59,11 @@ abbrev pub is_control_line : Seen → Bool
 is_control_line (Byte c) = false
 is_control_line (Event e) = e.event == 0
 
+-- whether an item is a byte that goes a way that isn't taken
+abbrev pub is_other : Ways → Seen → Bool
+is_other chosen (Byte c) = not (takes chosen c.way)
+is_other chosen (Event e) = false
+
 -- how many items pass this test
 abbrev pub count_of : (Seen → Bool) → List Seen → ℕ
 count_of such [] = 0
@@ -75,6 +80,7 @@ pub record HoldsItems (chosen : Ways) (kept : Kept) (items : List Seen) : Type 0
   pub b_is : kept.b.items ≡ way_bytes chosen way.B items
   pub breaks_are : kept.breaks ≡ min (count_of is_break items) (2 ^ 64 - 1)
   pub lines_are : kept.control_lines ≡ min (count_of is_control_line items) (2 ^ 64 - 1)
+  pub others_are : kept.others ≡ min (count_of (is_other chosen) items) (2 ^ 64 - 1)
 
 -- whether an event was seen on this way
 abbrev pub is_on : Option Way → Way → Bool
@@ -108,6 +114,7 @@ pub record HoldsBefore (follows : Bool) (taking : Taking) (kept : Kept) (items :
       ≡ before_error follows taking.rate error (way_bytes taking.ways way.B items)
   pub breaks_are : kept.breaks ≡ min (count_of is_break items) (2 ^ 64 - 1)
   pub lines_are : kept.control_lines ≡ min (count_of is_control_line items) (2 ^ 64 - 1)
+  pub others_are : kept.others ≡ min (count_of (is_other taking.ways) items) (2 ^ 64 - 1)
 
 -- Holds if one more item was taken, whatever items were taken before.
 abbrev pub TakesItem : Ways → Kept → Kept → Seen → Type 0

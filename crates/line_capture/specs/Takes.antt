@@ -1,5 +1,6 @@
 -- What `take` does.
 use Rattle.std.specs.Prelude.{◌≡◌, ℕ, ◌+◌, ◌^◌, min, Bool, true, false, List, [], ◌∷◌, ◌++◌, codes, ◌-◌, length}
+use Rattle.std.specs.Prelude.{◌==◌, ◌&&◌, if◌then◌else◌}
 use Rattle.std.specs.Prelude.{decimal, Option, Some, None, Result, Ok, Err}
 use Rattle.std.specs.Io.KnownBytes.{append_known}
 use Rattle.yasir_io.specs.Output.{GotPrefix}
@@ -14,7 +15,7 @@ use Rattle.line_stamps.specs.declared.capture.Way.TheVariants as way
 use Rattle.line_stamps.specs.declared.timing.Timing.{Timing}
 use Rattle.line_stamps.specs.Places.{line_of_places}
 use Rattle.command_ends.specs.declared.status.Status.TheVariants as statuses
-use Rattle.line_capture.specs.Captures.{Collects}
+use Rattle.line_capture.specs.Captures.{Collects, takes}
 use Rattle.line_capture.specs.Formats.{Format}
 use Rattle.line_capture.specs.Inputs.{Told, IsRead}
 use Rattle.line_capture.specs.Placed.{PlacedIsFront, PlacedStopsAt, CountsOverlaps}
@@ -154,12 +155,33 @@ abbrev pub errors_in : CaptureEnd → List ℕ
 errors_in (ends.Bad (ByteError offset)) = codes "1"
 errors_in end = codes "0"
 
--- the line that the log gets after all ticks
+-- the line of what was counted
 abbrev pub counts_line : ℕ → CaptureEnd → Kept → List ℕ
 counts_line overlaps end kept =
     codes "counted: overlaps " ++ decimal overlaps ++ codes ", errors " ++ errors_in end
     ++ codes ", breaks " ++ decimal kept.breaks ++ codes ", control lines "
     ++ decimal kept.control_lines ++ codes "\n"
+
+-- how many bytes of a capture go way A and way B
+abbrev pub way_counts : Ways → Kept → ℕ × ℕ
+way_counts A kept = (length kept.a.items, kept.others)
+way_counts B kept = (kept.others, length kept.b.items)
+way_counts Both kept = (length kept.a.items, length kept.b.items)
+
+-- The line that warns of a way that was asked for and has no byte, with the counts of both ways.
+abbrev pub empty_line : List ℕ → ℕ × ℕ → List ℕ
+empty_line way counts = codes "warning: no byte on way " ++ way ++ codes ": way a has "
+    ++ decimal counts.0 ++ codes ", way b " ++ decimal counts.1 ++ codes "\n"
+
+-- the warning of a way with this many bytes, if it is taken and has none
+abbrev pub empty_warning : Bool → List ℕ → ℕ → ℕ × ℕ → List ℕ
+empty_warning taken way own counts = if taken && own == 0 then empty_line way counts else []
+
+-- the lines that the log gets after all ticks: what was counted, and the warnings of both ways
+abbrev pub taken_lines : Ways → ℕ → CaptureEnd → Kept → List ℕ
+taken_lines ways overlaps end kept = counts_line overlaps end kept
+    ++ empty_warning (takes ways way.A) (codes "a") (length kept.a.items) (way_counts ways kept)
+    ++ empty_warning (takes ways way.B) (codes "b") (length kept.b.items) (way_counts ways kept)
 
 -- ---- a capture that was collected
 
@@ -184,7 +206,7 @@ pub record WritesAll (taking : Taking) (kept : Kept) (read : ReadEnd) (end : Cap
   pub overlap_a : CountsOverlaps (timing_for taking kept) kept.a.items overlaps_a
   pub overlap_b : CountsOverlaps (timing_for taking kept) kept.b.items overlaps_b
   pub log : now.log ≡ append_known before.log
-      (counts_line (min (overlaps_a + overlaps_b) (2 ^ 64 - 1)) end kept)
+      (taken_lines taking.ways (min (overlaps_a + overlaps_b) (2 ^ 64 - 1)) end kept)
   pub outcome_is : outcome ≡ outcome_of read end a_end b_end
 
 -- Holds if a write or a flush failed, after a front of the lines and of what was counted was
@@ -193,7 +215,7 @@ pub record WritesPart (taking : Taking) (kept : Kept) (end : CaptureEnd) (before
     : Type 0 where
   pub lines : WrittenFront (timing_for taking kept) taking.ways kept before.out now.out
   pub overlaps : ℕ
-  pub log : GotPrefix before.log now.log (counts_line overlaps end kept)
+  pub log : GotPrefix before.log now.log (taken_lines taking.ways overlaps end kept)
 
 -- Holds if the lines and what was counted were written, or a front of them before a write or a
 -- flush failed.

@@ -36,8 +36,8 @@ pub enum CaptureEnd {
     Bad(BadCapture),
 }
 
-/// The bytes of the ways that are taken, in the order of the capture, and how many breaks and
-/// changes of control lines it has. A count stops at 2^64 - 1.
+/// The bytes of the ways that are taken, in the order of the capture, and how many breaks, changes
+/// of control lines and other bytes it has. A count stops at 2^64 - 1.
 #[derive(Drop)]
 pub struct Kept {
     /// The bytes of way A, or none if it isn't taken.
@@ -48,6 +48,8 @@ pub struct Kept {
     pub breaks: u64,
     /// How many changes of control lines there are.
     pub control_lines: u64,
+    /// How many bytes go a way that isn't taken.
+    pub others: u64,
 }
 
 /// What was kept of a capture, and how it ended.
@@ -61,7 +63,7 @@ pub struct Collected {
 
 impl Ways {
     /// Whether a way is taken.
-    fn takes(self, way: Way) -> bool
+    pub(crate) fn takes(self, way: Way) -> bool
         ensures { result ≡ takes self way }
     {
         match (self, way) {
@@ -135,14 +137,16 @@ impl Kept {
             b: Vec::new(alloc),
             breaks: 0,
             control_lines: 0,
+            others: 0,
         }
     }
 
-    // Keeps a byte, if its way is taken.
+    // Keeps a byte, if its way is taken, and otherwise counts it.
     fn keep(&mut self, ways: Ways, byte: CaptureByte) -> Result<(), NoMemory>
         ensures { OnOk result (TakesItem ways self.old self.new (Seen.Byte byte)) }
     {
         if !ways.takes(byte.way) {
+            self.others = self.others.saturating_add(1);
             return Ok(());
         }
         match byte.way {

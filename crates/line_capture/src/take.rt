@@ -15,6 +15,7 @@ ghost use Rattle.line_capture.specs.Takes.{WritesLines, origin_of, line_outcome,
 ghost use Rattle.line_capture.specs.Takes.{outcome_of, counts_line, held, WritesTaken, TakesRead};
 ghost use Rattle.line_capture.specs.Takes.{TakesCapture, is_capture_write_fault, is_done, is_verdict, HasOutcome};
 ghost use Rattle.line_capture.specs.Takes.{mark_of, timing_for};
+ghost use Rattle.line_capture.specs.Takes.{way_counts, empty_line, empty_warning, taken_lines};
 ghost use Rattle.line_capture.specs.Takes.{is_whole_capture};
 ghost use Rattle.line_capture.specs.declared.outcome.Outcome.{Outcome};
 
@@ -163,7 +164,8 @@ fn outcome_of(read: ReadEnd, end: CaptureEnd, a: LineEnd, b: LineEnd) -> Outcome
 
 // Returns the line with what was counted.
 fn counts_line(overlaps: u64, end: CaptureEnd, kept: &Kept) -> Line
-    ensures { result.items ≡ counts_line overlaps end kept.now }
+    ensures line { result.items ≡ counts_line overlaps end kept.now }
+    ensures short { length result.items ≤ 140 }
 {
     let mut line = Line::new();
     line.try_extend_from_slice(b"counted: overlaps ").unwrap();
@@ -179,6 +181,62 @@ fn counts_line(overlaps: u64, end: CaptureEnd, kept: &Kept) -> Line
     push_decimal(&mut line, kept.control_lines);
     line.push(b'\n');
     line
+}
+
+// Returns how many bytes of a capture go way A and way B.
+fn way_counts(ways: Ways, kept: &Kept) -> (u64, u64)
+    ensures { result ≡ way_counts ways kept.now }
+{
+    let a = kept.a.len() as u64;
+    let b = kept.b.len() as u64;
+    match ways {
+        Ways::A => (a, kept.others),
+        Ways::B => (kept.others, b),
+        Ways::Both => (a, b),
+    }
+}
+
+// Returns the line that warns of a way without a byte.
+fn empty_line(way: &[u8], counts: (u64, u64)) -> Line
+    requires { length way.now ≤ 1 }
+    ensures line { result.items ≡ empty_line way.now counts }
+    ensures short { length result.items ≤ 100 }
+{
+    let mut line = Line::new();
+    line.try_extend_from_slice(b"warning: no byte on way ")
+        .unwrap();
+    line.try_extend_from_slice(way).unwrap();
+    line.try_extend_from_slice(b": way a has ").unwrap();
+    push_decimal(&mut line, counts.0);
+    line.try_extend_from_slice(b", way b ").unwrap();
+    push_decimal(&mut line, counts.1);
+    line.push(b'\n');
+    line
+}
+
+// Returns the warning of a way with this many bytes, if it is taken and has none.
+fn empty_warning(taken: bool, way: &[u8], own: usize, counts: (u64, u64)) -> Line
+    requires { length way.now ≤ 1 }
+    ensures warning { result.items ≡ empty_warning taken way.now own counts }
+    ensures short { length result.items ≤ 100 }
+{
+    if taken && own == 0 {
+        return empty_line(way, counts);
+    }
+    Line::new()
+}
+
+// Returns the lines with what was counted, and the warnings of ways that have no byte.
+fn taken_lines(ways: Ways, overlaps: u64, end: CaptureEnd, kept: &Kept) -> Line
+    ensures { result.items ≡ taken_lines ways overlaps end kept.now }
+{
+    let counts = way_counts(ways, kept);
+    let a = empty_warning(ways.takes(Way::A), b"a", kept.a.len(), counts);
+    let b = empty_warning(ways.takes(Way::B), b"b", kept.b.len(), counts);
+    let mut lines = counts_line(overlaps, end, kept);
+    lines.try_extend_from_slice(a.as_slice()).unwrap();
+    lines.try_extend_from_slice(b.as_slice()).unwrap();
+    lines
 }
 
 fn is_done(outcome: &Outcome) -> bool
@@ -229,8 +287,8 @@ fn write_taken<O: Sink, L: Sink>(
     let overlaps_a = count_overlaps(timing, first);
     let overlaps_b = count_overlaps(timing, second);
     let overlaps = overlaps_a.saturating_add(overlaps_b);
-    let line = counts_line(overlaps, collected.end, kept);
-    match write_all(log, line.as_slice()) {
+    let lines = taken_lines(taking.ways, overlaps, collected.end, kept);
+    match write_all(log, lines.as_slice()) {
         Ok(()) => {}
         Err(Failed) => return Outcome::Ended(Status::WriteFault),
     }

@@ -183,8 +183,42 @@ fn captures_are_taken(rt: HostRuntime) -> Result<(), Fail> {
     ended(&rt, &ran, DONE, POLL_TICKS, NO_COUNTS);
     let ran = run_words(alloc, "take pcap 9600x11 both", &EXCHANGE, 0, 0)?;
     ended(&rt, &ran, DONE, BOTH_TICKS, NO_COUNTS);
-    let ran = run_words(alloc, "take text 9600x11 b", POLLS, 0, 0)?;
-    ended(&rt, &ran, DONE, b"", NO_COUNTS);
+    Ok(())
+}
+
+/// Words for a capture of one way, and what is written to the log.
+const EMPTY_WAYS: [(&str, &[u8], &[u8]); 3] = [
+    (
+        "take text 9600x11 b",
+        b"",
+        b"counted: overlaps 0, errors 0, breaks 0, control lines 0\n\
+        warning: no byte on way b: way a has 16, way b 0\n",
+    ),
+    (
+        "take text 9600x11 both",
+        b"+01030000000ac5cd\n-92\n+0103000a0002e409\n%\n",
+        b"counted: overlaps 0, errors 0, breaks 0, control lines 0\n\
+        warning: no byte on way b: way a has 16, way b 0\n",
+    ),
+    (
+        "take text 9600x11 a",
+        b"+01030000000ac5cd\n-92\n+0103000a0002e409\n",
+        b"counted: overlaps 0, errors 0, breaks 0, control lines 0\n",
+    ),
+];
+
+#[test]
+fn a_way_without_a_byte_is_a_warning(rt: HostRuntime) -> Result<(), Fail> {
+    let alloc = rt.alloc();
+    for (words, out, log) in &EMPTY_WAYS {
+        let ran = run_words(alloc, words, POLLS, 0, 0)?;
+        ended(&rt, &ran, DONE, out, log);
+    }
+    let nothing = run_words(alloc, "take text 9600x11 both", b"# none\n", 0, 0)?;
+    let both = b"counted: overlaps 0, errors 0, breaks 0, control lines 0\n\
+        warning: no byte on way a: way a has 0, way b 0\n\
+        warning: no byte on way b: way a has 0, way b 0\n";
+    ended(&rt, &nothing, DONE, b"%\n", both);
     Ok(())
 }
 

@@ -7,16 +7,16 @@ returns-in-Err-write_all-clause-writes g c =
     log_fails c.args.taking c.args.collected.now.kept c.args.read c.args.collected.now.end _ _
     c.timing_for-timing.result c.timing_for-timing.ensures c.in-Ok.ends.0 c.in-Ok.ends.1 _
     c.in-Ok.ensures.lines c.saturating_add-overlaps.result _ c.write_lines.ensures.log
-    c.as_slice.result.now c.counts_line-line.result.items c.as_slice.ensures.value
-    c.counts_line-line.ensures refl c.in-Err-write_all.ensures.err
+    c.as_slice.result.now c.taken_lines-lines.result.items c.as_slice.ensures.value
+    c.taken_lines-lines.ensures refl c.in-Err-write_all.ensures.err
 
 pub returns-clause-writes : goal.returns-clause-writes
 returns-clause-writes g c =
     log_goes c.args.taking c.args.collected.now.kept c.args.read c.args.collected.now.end _ _
     c.timing_for-timing.result c.timing_for-timing.ensures c.in-Ok.ends.0 c.in-Ok.ends.1 _
     c.in-Ok.ensures.lines c.saturating_add-overlaps.result _ c.write_lines.ensures.log
-    c.as_slice.result.now c.counts_line-line.result.items c.as_slice.ensures.value
-    c.counts_line-line.ensures c.as_slice-first.result.now c.as_slice-second.result.now
+    c.as_slice.result.now c.taken_lines-lines.result.items c.as_slice.ensures.value
+    c.taken_lines-lines.ensures c.as_slice-first.result.now c.as_slice-second.result.now
     c.count_overlaps-overlaps_a.result c.count_overlaps-overlaps_b.result _ c.end_run.result
     c.outcome_of.result c.as_slice-first.ensures.value c.as_slice-second.ensures.value
     c.count_overlaps-overlaps_a.ensures c.count_overlaps-overlaps_b.ensures

@@ -4,12 +4,12 @@ use Rattle.line_capture.proofs.collect.Kept.keep.Goals as goal
 
 pub returns-then-not-takes : goal.returns-then-not-takes
 returns-then-not-takes c = passes_byte c.args.ways c.args.self.now c.args.byte
-    (sym c.takes.ensures ∙ c.if-not-takes.true)
+    c.saturating_add.result (sym c.takes.ensures ∙ c.if-not-takes.true) c.saturating_add.ensures
 
 pub returns-in-A : goal.returns-in-A
 returns-in-A c = on_ok_weaker c.push.result (takes_a c.args.ways c.args.self.now c.args.byte _
-    (sym c.takes.ensures ∙ c.if-not-takes.false) c.in-A.is refl refl refl) c.push.ensures
+    (sym c.takes.ensures ∙ c.if-not-takes.false) c.in-A.is refl refl refl refl) c.push.ensures
 
 pub returns-in-B : goal.returns-in-B
 returns-in-B c = on_ok_weaker c.push-in-B.result (takes_b c.args.ways c.args.self.now c.args.byte _
-    (sym c.takes.ensures ∙ c.if-not-takes.false) c.in-B.is refl refl refl) c.push-in-B.ensures
+    (sym c.takes.ensures ∙ c.if-not-takes.false) c.in-B.is refl refl refl refl) c.push-in-B.ensures
