@@ -6,10 +6,11 @@ use Rattle.command_ends.proofs.{FlushLaws.flushes_after, Logging.sinks_after, Ru
 use Rattle.command_ends.{proofs.Running.asks_none, specs.Programs.AsksFor, specs.Programs.EndsLog}
 use Rattle.std.proofs.Common.{◌≡◌, ◌∙◌, ap, map, subst}
 use Rattle.std.specs.String.{string_bytes}
+use Rattle.line_capture.proofs.program.run.Given.{Over}
 use Rattle.line_capture.proofs.program.run.Goals as goal
 
 -- What is written last to the log is the text of the words, the input's reason and the outcome.
-text_is : (g : _) (c : goal.After-write_fault_line g) → c.as_slice.result.now
+text_is : (g : Over) (c : goal.After-write_fault_line g) → c.as_slice.result.now
     ≡ capture_fault_text (map string_bytes c.args.words.now)
     (of_input (g.S.TellsReason.told_reason c.answer-outcome.new.input)) c.answer-outcome.result
 text_is g c = c.as_slice.ensures.value ∙ c.fault_text.ensures

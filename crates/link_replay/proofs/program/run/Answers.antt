@@ -10,10 +10,11 @@ use Rattle.command_ends.specs.{Outside.outside, Reasons.told_by, Programs.EndsLo
 use Rattle.link_replay.specs.OverFiles.{outside_of}
 use Rattle.std.proofs.Common.{◌≡◌, ◌∙◌, ap, subst, sym}
 use Rattle.std.specs.{Prelude.map, String.string_bytes}
+use Rattle.link_replay.proofs.program.run.Given.{Over}
 use Rattle.link_replay.proofs.program.run.Goals as goal
 
 -- What is written last to the log is the text of the words, the reasons and the status.
-text_is : (g : _) (c : goal.After-log_fault g) → c.as_slice.result.now
+text_is : (g : Over) (c : goal.After-log_fault g) → c.as_slice.result.now
     ≡ fault_text (map string_bytes c.args.words.now)
     (told_by g.K.TellsReason.told_reason g.S.TellsReason.told_reason g.D.TellsReason.told_reason
     c.answer-status.new.key c.answer-status.new.streams.input c.answer-status.new.disk)
