@@ -5,10 +5,10 @@
 
 PROGRAM is a link_replay, crates/link_replay/out/link_replay unless it is given. Right and wrong words, texts of each form and with each
 fault, TEXTS right texts that are changed at random (300, drawn from SEED, 1), streams that are closed, full or a folder: status, lines,
-notes and journal must be the same in both. Only if an output can't be written may the filter stop at a lower number, since it writes
+notes and journal must be the same in both, but reasons of faults and usage lines are PROGRAM's alone. Only if an output can't be written may the filter stop at a lower number, since it writes
 each note at once. It ends with 1 if anything differs, and with 2 if something isn't installed. It is no part of the gate.
 """
-import collections, itertools, os, random, subprocess, sys, tempfile
+import collections, itertools, os, random, re, subprocess, sys, tempfile
 
 import bridge_build, built
 from killed import KEY, floor_of, slot_of
@@ -66,9 +66,15 @@ class Pair:
         return words.split() + ([self.key, self.journal] if len(words.split()) == 3 else [])
 
 
+def plain(log):
+    """A log with the first words of its fault line alone: the filter says neither reasons nor the words of commands."""
+    log = re.sub(rb"^fault: (read|journal)( key| input)?:.*$", rb"fault: \1", log, flags=re.M)
+    return re.sub(rb"^(usage|commands): .*\n", b"", log, flags=re.M)
+
+
 def ran(words, text):
     done = subprocess.run(words, input=text, capture_output=True, timeout=60)
-    return done.returncode, done.stdout, done.stderr
+    return done.returncode, done.stdout, plain(done.stderr)
 
 
 def texts(pair, count, draw):
