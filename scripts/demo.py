@@ -2,13 +2,15 @@
 """Proves the program crate by crate, runs it over the recorded exchange in examples/, and compares what it writes with examples/expected/.
 
     python3 scripts/demo.py [JOBS]
+    python3 scripts/demo.py --over PROGRAM
 
 JOBS is the most crates that are proved side by side. Without it, as many are as processors and memory allow (prove.py). What the
-prover prints goes into out/demo.log. The exit status is 0 if everything is proved and nothing differs.
+prover prints goes into out/demo.log. With --over nothing is proved, and PROGRAM is run. The exit status is 0 if everything is proved,
+unless PROGRAM was given, and nothing differs.
 """
 import difflib, os, subprocess, sys, tempfile, threading, time
 
-import timeline
+import built, timeline
 from killed import old_slot_of
 from lanes import Lanes, run_in
 from model import AUDIT_STATUS, canonical, ticks_of
@@ -16,7 +18,7 @@ from prove import crates_below, lines_of, prove_all, room_here
 
 ROOT = os.path.dirname(os.path.dirname(os.path.abspath(__file__)))
 LOG = os.path.join(ROOT, "out", "demo.log")
-PROGRAM = os.path.join(ROOT, "crates", "link_replay", "out", "link_replay")
+PROGRAM = built.path_of("link_replay")
 EXAMPLES = os.path.join(ROOT, "examples")
 log_lock = threading.Lock()
 
@@ -165,10 +167,10 @@ def show_deaf(name, protocol, what, answer, folder):
     return same
 
 
-def show_gated(name, what, waits, device, link, folder):
-    """Shows a two-wire box beside a device, and what the device reads of the ticks that the box gives it."""
+def show_gated(name, what, words, device, link, folder):
+    """Shows a two-wire box at one end, and what the device there reads of the ticks that the box gives it."""
     print("== %s\n" % what)
-    words = ["two_wire", "rtu", "ba"] + waits.split()
+    words = ["two_wire", "rtu"] + words.split()
     lines, notes = run(words + [os.path.join(EXAMPLES, "key.txt")], joined(folder, name + ".wires.ticks", device, link))
     same = show("%s: the link's ticks, and after the %% those that its device gets" % " ".join(words), lines, name + ".gated.txt")
     same &= show("its notes, on standard error", notes, name + ".gated_notes.txt")
@@ -176,6 +178,15 @@ def show_gated(name, what, waits, device, link, folder):
     with open(given, "w") as written:
         written.write(lines.split("%\n")[1])
     return same & show("read rtu: the frames that the device reads", run(["read", "rtu"], given)[0], name + ".gated_acts.txt")
+
+
+def show_two_wire_line(folder):
+    """Shows a line on one pair of wires at each end, with a box at both, under attack."""
+    link = example("wires_link.ticks")
+    same = show_gated("wires_master", "Two-wire lines at both ends of a link under attack (examples/wires_link.ticks): the master's box, which speaks "
+                      "for the device", "ab answers 60 22", example("wires_master.ticks"), link, folder)
+    return same & show_gated("wires_device", "The device's box, at the other end of this link, which speaks for the master", "ba asks 19 4",
+                             example("wires_device.ticks"), link, folder)
 
 
 def show_write_inside(folder):
@@ -200,7 +211,7 @@ def show_write_inside(folder):
                  run(["read", "rtu"], path("heard"))[0], name + ".deaf_acts.txt")
     with open(path("link")) as link:
         return same & show_gated(name, "The same link behind a gate, which waits for an answer for up to 60 ticks and keeps the request back",
-                                 "asks 60 4", "-124\n+010302002a399b\n", "-60\n" + link.read(), folder)
+                                 "ba asks 60 4", "-124\n+010302002a399b\n", "-60\n" + link.read(), folder)
 
 
 def show_session(name, protocol, line, link, what, folder):
@@ -324,28 +335,40 @@ def show_picture():
     print("A picture of it, for a browser: %s (docs/TIMELINE.md says what it shows)" % os.path.relpath(page, ROOT))
 
 
-def main():
-    most = int(sys.argv[1]) if len(sys.argv) > 1 else None
-    os.makedirs(os.path.dirname(LOG), exist_ok=True)
-    open(LOG, "w").close()
-    prove_program(most)
+def show_all(folder):
+    """Runs the program over all of examples/. Returns whether all is as expected."""
+    same = show_side("requests", "rtu", "ab", "From the control centre to a Modbus RTU device", "device", folder)
+    same &= show_side("replies", "rtu", "ba", "From the device to the control centre", "master", folder)
+    same &= show_altered("altered", "rtu", "The first of these links again", "device", folder)
+    same &= show_side("outstation", "dnp3", "ab", "From the control centre to a DNP3 outstation", "outstation", folder)
+    same &= show_altered("outstation_altered", "dnp3", "This link again", "outstation", folder)
+    same &= show_guarded("byte_behind", folder)
+    same &= show_deaf("deaf_device", "rtu", "A link with a byte and a frame directly after it", (41, 47), folder)
+    same &= show_gated("deaf_device", "The same link, and that device (examples/deaf_answer.ticks) behind a gate", "ba asks 19 4",
+                       example("deaf_answer.ticks"), example("deaf_device.ticks"), folder)
+    same &= show_write_inside(folder)
+    same &= show_two_wire_line(folder)
+    same &= show_deaf("deaf_outstation", "dnp3", "A link with a frame inside a longer one", (40, 49), folder)
+    same &= show_wrong_link(folder)
+    same &= show_taken_over(folder)
+    same &= show_sessions(folder)
+    same &= show_whole_line(folder)
+    return same & show_incident(folder)
+
+
+def main(words):
+    global PROGRAM
+    if words[:1] == ["--over"] and len(words) == 2:
+        PROGRAM = built.program(words, 1)
+        print("== Over the program %s. Nothing is proved.\n" % os.path.relpath(PROGRAM))
+    elif len(words) > 1 or not all(word.isdecimal() for word in words):
+        raise RuntimeError(__doc__.strip())
+    else:
+        os.makedirs(os.path.dirname(LOG), exist_ok=True)
+        open(LOG, "w").close()
+        prove_program(int(words[0]) if words else None)
     with tempfile.TemporaryDirectory(prefix="demo.") as folder:
-        same = show_side("requests", "rtu", "ab", "From the control centre to a Modbus RTU device", "device", folder)
-        same &= show_side("replies", "rtu", "ba", "From the device to the control centre", "master", folder)
-        same &= show_altered("altered", "rtu", "The first of these links again", "device", folder)
-        same &= show_side("outstation", "dnp3", "ab", "From the control centre to a DNP3 outstation", "outstation", folder)
-        same &= show_altered("outstation_altered", "dnp3", "This link again", "outstation", folder)
-        same &= show_guarded("byte_behind", folder)
-        same &= show_deaf("deaf_device", "rtu", "A link with a byte and a frame directly after it", (41, 47), folder)
-        same &= show_gated("deaf_device", "The same link, and that device (examples/deaf_answer.ticks) behind a gate", "asks 19 4",
-                           example("deaf_answer.ticks"), example("deaf_device.ticks"), folder)
-        same &= show_write_inside(folder)
-        same &= show_deaf("deaf_outstation", "dnp3", "A link with a frame inside a longer one", (40, 49), folder)
-        same &= show_wrong_link(folder)
-        same &= show_taken_over(folder)
-        same &= show_sessions(folder)
-        same &= show_whole_line(folder)
-        same &= show_incident(folder)
+        same = show_all(folder)
     if same:
         show_picture()
     print("All of it is what examples/expected/ has." if same else "Something differs from examples/expected/.")
@@ -353,7 +376,7 @@ def main():
 
 
 try:
-    sys.exit(main())
+    sys.exit(main(sys.argv[1:]))
 except FileNotFoundError as missing:
     sys.exit("demo: %s isn't there. `rt` comes with the toolchain, and must be on the path." % missing.filename)
 except RuntimeError as why:
