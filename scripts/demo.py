@@ -327,11 +327,21 @@ def session_of(protocol, title, side, altered):
             "notes=" + expected(altered + ".acts.txt")]
 
 
-def show_picture():
-    """Writes a page that shows the altered links, tick by tick, and says where it is."""
+def two_wire_session(folder):
+    """The words by which it shows the two-wire line: of each end what its box reads and writes, and its notes."""
+    words = ["rtu", "title=A two-wire line under attack", "title.near=the master's wires", "title.far=the device's wires"]
+    for end, name in (("near", "wires_master"), ("far", "wires_device")):
+        words.append("%s=%s" % (end, os.path.join(folder, name + ".wires.ticks")))
+        words += ["%s.%s=%s" % (end, kind, os.path.join(EXAMPLES, "expected", "%s.gated%s.txt" % (name, behind)))
+                  for kind, behind in (("drives", ""), ("notes", "_notes"), ("notes", "_acts"))]
+    return words
+
+
+def show_picture(folder):
+    """Writes a page that shows the altered links and the two-wire line, tick by tick, and says where it is."""
     page = os.path.join(ROOT, "out", "timeline.html")
     timeline.main([page] + session_of("rtu", "Requests, as an attacker left the link", "requests", "altered")
-                  + session_of("dnp3", "The same for the outstation", "outstation", "outstation_altered"))
+                  + session_of("dnp3", "The same for the outstation", "outstation", "outstation_altered") + two_wire_session(folder))
     print("A picture of it, for a browser: %s (docs/TIMELINE.md says what it shows)" % os.path.relpath(page, ROOT))
 
 
@@ -369,8 +379,8 @@ def main(words):
         prove_program(int(words[0]) if words else None)
     with tempfile.TemporaryDirectory(prefix="demo.") as folder:
         same = show_all(folder)
-    if same:
-        show_picture()
+        if same:
+            show_picture(folder)
     print("All of it is what examples/expected/ has." if same else "Something differs from examples/expected/.")
     return 0 if same else 1
 

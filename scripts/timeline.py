@@ -11,10 +11,14 @@ the page finds protocol and profile by the bytes. Each WORD says what a text is,
     came=FILE          the link as it came, which `check` reads
     received=FILE      the line that `check` wrote
     both=FILE          a device's line, a line %, and a link, as `replay` reads them
+    near=FILE          of a two-wire line: a device's wires, a line %, and the link's, as `two_wire` reads them
+    near.drives=FILE   what `two_wire` wrote of these
+    near.notes=FILE    its notes, and what `read` printed of what it wrote for its device
+    far=FILE, far.drives=FILE, far.notes=FILE   the same of the box at the other end
     --lane NAME=FILE   a line of its own, called NAME, that no box reads or writes; NAME,NAME=FILE is two, with a line % between them
     notes=FILE         the notes of `seal` or `check`, or what `read` (for the received line) or `replay` printed; it may come several times
     title=TEXT         the session's name
-    title.LANE=TEXT    the name of a lane (device, sent, came or received) in place of the usual one
+    title.LANE=TEXT    the name of a lane (device, sent, came, received, near, link or far) in place of the usual one
     rate=BAUDxBITS     baud and bits of a character, such as 9600x11
     start=TIME         the date and time of tick 0, such as 2026-11-30T14:05:09.250; the page then shows the time of day
     remark=TEXT        a sentence that always stands above the lanes
@@ -28,7 +32,9 @@ import datetime, html, json, os, re, sys
 PAGE = os.path.join(os.path.dirname(os.path.abspath(__file__)), "timeline_page")
 PROTOCOLS = ("rtu", "rtu24", "dnp3", "dnp24", "any")
 LANES = ("device", "sent", "came", "received")
-LINES = LANES + ("both",)
+WIRES = ("near", "link", "far")
+LINES = LANES + ("both", "near", "near.drives", "far", "far.drives")
+NOTES = ("notes", "near.notes", "far.notes")
 
 # The page may run what is in it, and load nothing.
 POLICY = "default-src 'none'; script-src 'unsafe-inline'; style-src 'unsafe-inline'; img-src data:"
@@ -81,18 +87,18 @@ def take(session, key, value):
     """Adds what a word KEY=VALUE says to a session."""
     if key in LINES and any(text["lane"] == key for text in session["texts"]):
         raise Wrong("%s is given twice" % key)
-    if key in LINES or key == "notes":
+    if key in LINES + NOTES:
         session["texts"].append(text_of(key, value))
     elif key in ("title", "remark"):
         session[key] = value
-    elif key in ["title." + lane for lane in LANES]:
+    elif key in ["title." + lane for lane in LANES + WIRES]:
         session["titles"][key.split(".")[1]] = value
     elif key == "rate":
         session["rate"] = rate_of(value)
     elif key == "start":
         session["start"] = start_of(value)
     else:
-        raise Wrong("%s is none of device, sent, came, received, both, notes, title, title.LANE, rate, start and remark" % key)
+        raise Wrong("%s is none of %s, title, title.LANE, rate, start and remark" % (key, ", ".join(LINES + NOTES)))
 
 
 def sessions_of(words):
@@ -108,7 +114,7 @@ def sessions_of(words):
         else:
             take(sessions[-1], *word.split("=", 1))
     for session in sessions:
-        if all(text["lane"] == "notes" for text in session["texts"]):
+        if all(text["lane"] in NOTES for text in session["texts"]):
             raise Wrong("a session has no line")
     return sessions
 

@@ -4,7 +4,7 @@
     python3 scripts/timeline_check.py [PART..] [picture=FILE]
 
 PART is one of example, outstation, words, values, altered, joined, replayed, own, clock, small, collisions, malformed, escaped,
-dropped and load. Without one all are run. What a page must say is taken from the texts themselves, from examples/, and from the model (model.py), never from the
+dropped, wires, profiles and load. Without one all are run. What a page must say is taken from the texts themselves, from examples/, and from the model (model.py), never from the
 page's own code. `load` makes a session of 100,000 frames, which must be shown within 3 s of processor time. `picture=FILE` writes
 the picture of docs/TIMELINE.md.
 It installs nothing: without a Chromium nothing is tested, and the status is 2. It is 0 only if all parts that were asked for
@@ -12,7 +12,7 @@ are as they must be. It is no part of the gate.
 """
 import datetime, json, math, os, random, re, subprocess, sys, tempfile, time
 
-import browser, model
+import browser, model, timeline_wires
 from model import Y18, Y24, Dnp3, Rtu
 
 SCRIPTS = os.path.dirname(os.path.abspath(__file__))
@@ -739,7 +739,7 @@ def take_picture(page, path):
 PARTS = {"example": test_example, "outstation": test_outstation, "words": test_words, "values": test_values, "altered": test_altered,
          "joined": test_joined, "replayed": test_replayed, "own": test_own, "clock": test_clock, "small": test_small,
          "collisions": test_collisions, "malformed": test_malformed,
-         "escaped": test_escaped, "dropped": test_dropped, "load": test_load}
+         "escaped": test_escaped, "dropped": test_dropped, **timeline_wires.PARTS, "load": test_load}
 
 
 def run_part(program, part, checked):

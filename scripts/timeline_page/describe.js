@@ -34,10 +34,11 @@ function changeWords(session, lane, burst, place) {
     const left = session.comparison.leftAs(burst, line.first[burst] + place);
     return left === byte ? [] : [said(`left as ${asByte(left)}, came as ${hexOf(byte)}`, "link")];
   }
-  if (lane !== "received" || !session.isSpoiled(burst, place)) return [];
-  const source = session.sourceOf(burst), { came } = session.lanes;
-  const isFill = place >= session.lengthOf("received", burst);
-  const was = isFill ? "filled as 00" : `came as ${hexOf(came.bytes[came.first[source] + place])}`;
+  if (!session.isSpoiled(lane, burst, place)) return [];
+  const source = session.sourceOf(lane, burst), { taken } = session;
+  const isFill = place >= session.lengthOf(lane, burst);
+  const came = taken.bytes[taken.first[source] + place];
+  const was = isFill ? "filled as 00" : `came as ${hexOf(came)}`;
   return [said(`spoiled: ${was}, leaves as ${hexOf(byte)}`, "bad")];
 }
 
@@ -59,11 +60,12 @@ function originWords(session, burst) {
 
 /** The note of a burst, in the note's own words, and what else became of it. */
 function noteWords(session, lane, burst) {
-  const note = session.noteOf(lane, burst), lines = [];
-  if (note) lines.push(said(note.text, note.why ? "bad" : "good"));
+  const lines = session.notesOf(lane, burst)
+    .map((note) => said(session.textOf(note), note.why ? "bad" : "good"));
   const forged = meaningOf({ word: "forged" }, session.protocol);
   if (session.isForged(lane, burst)) lines.push(said(forged, "bad"));
   if (lane === "came") lines.push(...originWords(session, burst));
+  if (session.ends) lines.push(...speakerWords(session, lane, burst));
   if (lane === "sent" && session.isLost(burst)) lines.push(said("lost: it didn't come", "link"));
   if (lane === "received" && session.isRead(burst)) lines.push(said("the device reads it", "good"));
   return lines;
@@ -71,7 +73,7 @@ function noteWords(session, lane, burst) {
 
 /** The word of a packet, as it stands behind the frame. */
 function wordWords(session, lane, burst) {
-  if (lane !== "sent" && lane !== "came") return [];
+  if (!session.isLink(lane)) return [];
   const line = session.lanes[lane], place = wordPlace(line, burst, session.protocol);
   if (place < 0) return [];
   const word = line.bytes.subarray(place, place + session.protocol.word);
@@ -101,6 +103,7 @@ function describeSilence(session, lane, tick, rate) {
   const line = session.lanes[lane], lines = [said(session.titles[lane], "title")];
   const burst = line.burstBefore(tick);
   if (burst >= 0 && tick < line.end(burst)) lines.push(...noteWords(session, lane, burst));
+  if (session.ends) lines.push(...heldWords(session, lane, tick));
   const left = lane === "came" && session.comparison ? leftIn(session, tick) : -1;
   if (left >= 0) lines.push(said(`left as ${hexOf(left)}, came as silence`, "link"));
   const next = lowerBound(line.at, tick);
@@ -132,6 +135,7 @@ function describeTick(session, lane, tick, rate) {
   return [
     said(session.titles[lane], "title"),
     ...noteWords(session, lane, burst),
+    ...(session.ends ? heldWords(session, lane, tick) : []),
     ...changeWords(session, lane, burst, within),
     said(`${hexOf(line.bytes[place])} · ${partWords(session, lane, burst, within)}`, "code"),
     ...frameWords(frame, session.protocol).map((text) => said(text)),
@@ -142,9 +146,9 @@ function describeTick(session, lane, tick, rate) {
 
 /** What is said of a pill that stands for several notes. */
 function describePill(session, pill, most = 12) {
-  const { lane, notes } = pill, rows = notes.slice(0, most).map(({ burst, words, level }) => {
+  const { lane, notes } = pill, rows = notes.slice(0, most).map(({ tick, words, level }) => {
     const kind = level === 2 ? "bad" : level === 1 ? "link" : "";
-    return said(`@${session.lanes[lane].start(burst)} ${words.join(", ")}`, kind);
+    return said(`@${tick} ${words.join(", ")}`, kind);
   });
   if (notes.length > most) rows.push(said(`and ${notes.length - most} more`, "faint"));
   return [said(`${session.titles[lane]}: ${countsText(notes)}`, "title"), ...rows];
@@ -152,14 +156,16 @@ function describePill(session, pill, most = 12) {
 
 /** All that there is to say of a burst. */
 function describeBurst(session, lane, burst, rate) {
-  const line = session.lanes[lane], note = session.noteOf(lane, burst);
-  const frame = session.frameOf(lane, burst), start = line.start(burst);
+  const line = session.lanes[lane], frame = session.frameOf(lane, burst);
+  const start = line.start(burst);
   const span = line.end(burst) - start + 1;
   const lines = [
     said(`${session.titles[lane]}, ticks ${start} to ${line.end(burst)}`, "title"),
     ...noteWords(session, lane, burst),
   ];
-  if (note) lines.push(said(meaningOf(note, session.protocol), "faint"));
+  const meant = session.notesOf(lane, burst)
+    .map((note) => meaningOf(note, session.protocol, session.delay));
+  for (const text of new Set(meant)) lines.push(said(text, "faint"));
   lines.push(...frameWords(frame, session.protocol).map((text) => said(text)));
   lines.push(said(crcWords(frame, session.protocol)), ...wordWords(session, lane, burst));
   const long = timeWords((span * rate.bits) / rate.baud);
@@ -199,17 +205,18 @@ function findBursts(session, isWanted) {
 /** The text that words are sought in: the note, what became of the burst, and its function or
  * header. */
 function wordsOf(session, lane, burst) {
-  const note = session.noteOf(lane, burst);
+  const notes = session.notesOf(lane, burst).map((note) => note.text).join(" ");
   const frame = session.frameOf(lane, burst);
   const labels = session.labelOf(lane, burst).join(" ");
-  const extra = lane === "received" && hasSpoiled(session, burst) ? " spoiled" : "";
+  const extra = hasSpoiled(session, lane, burst) ? " spoiled" : "";
   const meant = frameWords(frame, session.protocol).join(" ");
-  return `${note ? note.text : ""} ${labels}${extra} ${meant}`;
+  return `${notes} ${labels}${extra} ${meant}`;
 }
 
-function hasSpoiled(session, burst) {
-  return session.marksOf("received", burst).includes(SPOILED_BYTE)
-    || session.partsOf("received", burst).includes(FILL);
+function hasSpoiled(session, lane, burst) {
+  return session.sourceOf(lane, burst) >= 0
+    && (session.marksOf(lane, burst).includes(SPOILED_BYTE)
+      || session.partsOf(lane, burst).includes(FILL));
 }
 
 /** Whether a text has these words, each whole, one behind the other. */
@@ -234,8 +241,8 @@ function search(session, query) {
   const byNumber = /^#?\d+$/.test(digits) ? Number(digits.replace("#", "")) : -1;
   const isByValue = /^=?(0|[1-9]\d*)$/.test(text), value = text.replace("=", "");
   const found = byNumber < 0 && !isByValue ? [] : findBursts(session, (lane, burst) => {
-    const note = session.noteOf(lane, burst);
-    if (byNumber >= 0 && note !== undefined && note.number === byNumber) return true;
+    const hasNumber = (note) => note.number === byNumber;
+    if (byNumber >= 0 && session.notesOf(lane, burst).some(hasNumber)) return true;
     return isByValue && hasValue(session.frameOf(lane, burst), session.protocol, value);
   });
   if (/^([0-9a-f]{2})+$/.test(digits)) {
@@ -244,7 +251,7 @@ function search(session, query) {
   } else if (byNumber < 0 && !isByValue) {
     const words = text.split(/\s+/);
     const isWanted = (lane, burst) => hasWords(wordsOf(session, lane, burst), words);
-    found.push(...findBursts(session, isWanted));
+    found.push(...findBursts(session, isWanted), ...findHeld(session, words));
   }
   return session.inOrder(found);
 }

@@ -221,6 +221,10 @@ class Painter {
       this.paintBurst(lane, burst);
       pills.push({ burst, x: this.x(this.session.lanes[lane].start(burst)) });
     }
+    if (this.session.ends) {
+      pills.push(...paintHeld(this, lane));
+      pills.sort((one, other) => one.x - other.x);
+    }
     this.paintPills(lane, pills);
   }
   /** Dashed frames where bytes left that didn't come. */
@@ -235,10 +239,11 @@ class Painter {
       }
     }
   }
-  paintMissing(tick, byte) {
+  /** A dashed frame for a byte that isn't in its lane. */
+  paintMissing(tick, byte, lane = "came") {
     const { pen, colours, scale } = this, x = this.x(tick);
-    if (x < -scale || x > this.width || this.session.lanes.came.placeAt(tick) >= 0) return;
-    const top = this.laneTop("came") + CELL_TOP, wide = Math.max(1, scale - (scale > 8 ? 1 : 0));
+    if (x < -scale || x > this.width || this.session.lanes[lane].placeAt(tick) >= 0) return;
+    const top = this.laneTop(lane) + CELL_TOP, wide = Math.max(1, scale - (scale > 8 ? 1 : 0));
     pen.strokeStyle = colours.altered;
     pen.setLineDash([3, 2]);
     pen.lineWidth = 1;
@@ -321,8 +326,8 @@ class Painter {
     let was = 0;
     if (mark === ALTERED_BYTE) was = session.comparison.leftAs(burst, index);
     else if (place < session.lengthOf(lane, burst)) {
-      const { came } = session.lanes;
-      was = came.bytes[came.first[session.sourceOf(burst)] + place];
+      const { taken } = session;
+      was = taken.bytes[taken.first[session.sourceOf(lane, burst)] + place];
     }
     const colour = mark === ALTERED_BYTE ? colours.altered : colours.spoiled;
     if (was >= 0) this.hex(was, x, top + CELL + 16, colour, false, 12);
@@ -379,17 +384,21 @@ class Painter {
   /** Puts the notes of bursts into groups: one that begins less than the least width of a pill
    * behind the first one of a group belongs to it. */
   groupPills(lane, pills) {
-    const { session } = this, groups = [];
-    for (const { burst, x } of pills) {
-      const words = session.labelOf(lane, burst), last = groups[groups.length - 1];
-      if (words.length === 0) continue;
+    const groups = [];
+    for (const { burst, x, held } of pills) {
+      const note = held || this.pillOf(lane, burst), last = groups[groups.length - 1];
+      if (note.words.length === 0) continue;
       const left = Math.max(2, Math.min(x, this.width - LEAST_PILL));
-      const level = session.levels[lane][burst];
-      const note = { burst, words, level, note: session.noteOf(lane, burst) };
       if (last && left < last.left + LEAST_PILL) last.notes.push(note);
       else groups.push({ left, notes: [note] });
     }
     return groups;
+  }
+  /** What a pill has to say of a burst, and where that is. */
+  pillOf(lane, burst) {
+    const { session } = this, line = session.lanes[lane];
+    return { tick: line.start(burst), end: line.end(burst), words: session.labelOf(lane, burst),
+      level: session.levels[lane][burst], note: session.noteOf(lane, burst) };
   }
   /** The pill at a place of the canvas, if it stands for several notes. */
   pillAt(x, y) {
@@ -420,11 +429,12 @@ class Painter {
     pen.textBaseline = "middle";
     pen.fillText(text, x + 19, y + PILL / 2 + 0.5);
   }
-  /** A sign that tells notes apart without colour: a tick, a cross, a bar for what is dropped or
-   * unsealed. */
+  /** A sign that tells notes apart without colour: a tick, a cross, a bar for what is dropped,
+   * unsealed or held. */
   paintSign(x, y, note, level, colour) {
     const { pen } = this, word = note && level !== 1 ? note.word : "";
     const strokes = word === "refused" ? [[-3, -3, 3, 3], [-3, 3, 3, -3]]
+      : word === "held" ? [[-2, -3, -2, 3], [2, -3, 2, 3]]
       : word === "dropped" ? [[0, -4, 0, 3], [-3, 0, 0, 3], [3, 0, 0, 3]]
         : word === "unsealed" ? [[-3, 0, 3, 0]]
           : word !== "" ? [[-3, 0, -1, 3], [-1, 3, 3, -3]]
@@ -441,6 +451,7 @@ class Painter {
   /** Faint bands from a burst to what became of it in the next lane. */
   paintRibbons() {
     const { session } = this, { device, sent, came, received } = session.lanes;
+    if (session.ends) paintWireRibbons(this);
     if (device && sent) {
       this.ribbons("device", "sent", (burst) => sent.burstAt(device.start(burst)));
     }

@@ -81,8 +81,8 @@ function keepAt(page, event) {
   const { painter } = page, box = painter.canvas.getBoundingClientRect();
   const pill = painter.pillAt(event.clientX - box.left, event.clientY - box.top);
   if (pill) {
-    const at = painter.session.lanes[pill.lane], last = pill.notes[pill.notes.length - 1];
-    return page.show(at.start(pill.notes[0].burst), at.end(last.burst) + 1, pill.lane);
+    const last = pill.notes[pill.notes.length - 1];
+    return page.show(pill.notes[0].tick, last.end + 1, pill.lane);
   }
   const lane = painter.laneAt(event.clientY - box.top);
   if (!lane) return;

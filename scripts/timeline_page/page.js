@@ -78,12 +78,9 @@ class Page {
   /** Reads the texts of the session anew, and makes its lines and notes. */
   build() {
     this.messages = [];
-    const lanes = {}, notes = [], titles = { ...this.current.titles };
-    for (const text of this.current.texts) this.take(text, lanes, notes, titles);
-    const hasLine = Object.keys(lanes).length > 0;
-    const word = PROTOCOLS[this.current.protocol] ? this.current.protocol : guessProtocol(lanes);
-    const session = hasLine ? new Session(word, lanes, notes, titles) : null;
-    if (!hasLine && this.current.texts.length > 0) {
+    const session = this.sessionOf(this.current);
+    const word = session ? session.word : "rtu";
+    if (!session && this.current.texts.length > 0) {
       this.message("No line is here: notes alone can't be shown.");
     }
     this.setRate(this.current.rate || { baud: 9600, bits: PROTOCOLS[word].dnp ? 10 : 11 });
@@ -98,6 +95,25 @@ class Page {
     this.trouble = -1;
     this.tell();
   }
+  /** The lines and notes of the texts: of one direction, or of a two-wire line; or null. */
+  sessionOf({ texts, protocol, titles: given }) {
+    const lanes = {}, notes = [], titles = { ...given }, ends = newEnds();
+    for (const text of texts) {
+      if (text.lane in END_TITLES) takeWires(this, text, ends);
+      else this.take(text, lanes, notes, titles);
+    }
+    if (ENDS.some((name) => ends[name].read || ends[name].drives)) {
+      const isOwn = ([lane]) => !LANES.includes(lane);
+      const own = Object.fromEntries(Object.entries(lanes).filter(isOwn));
+      if (Object.keys(own).length < Object.keys(lanes).length || notes.length > 0) {
+        this.message("A two-wire line is here: lines and notes of one direction aren't shown.");
+      }
+      return wireSession(this, ends, protocol, own, titles);
+    }
+    if (Object.keys(lanes).length === 0) return null;
+    const word = PROTOCOLS[protocol] ? protocol : guessProtocol(lanes);
+    return new Session(word, lanes, notes, titles);
+  }
   tellStrays(strays) {
     strays.slice(0, 5).forEach((stray) => this.message(stray));
     if (strays.length <= 5) return;
@@ -110,11 +126,7 @@ class Page {
     if (text.lane === "notes") {
       return this.takeNotes(text, notes);
     }
-    const { lines, fault } = new TickReader(text.content).read();
-    if (fault) {
-      this.message(`${text.name}: line ${fault.row} ${fault.cause} (${CAUSES[fault.cause]}). `
-        + "The lines before it are shown.");
-    }
+    const lines = this.linesOf(text);
     const homes = this.homesOf(text, lanes, lines, titles);
     if (lines.length > homes.length) {
       this.message(`${text.name}: what stands behind the mark isn't shown.`);
@@ -127,6 +139,15 @@ class Page {
       if (!lanes[lane]) lanes[lane] = lines[index];
       else this.message(`${text.name}: ${LANE_TITLES[lane]} has another text; this isn't shown.`);
     });
+  }
+  /** The lines of a text, and a message of its fault. */
+  linesOf(text) {
+    const { lines, fault } = new TickReader(text.content).read();
+    if (fault) {
+      this.message(`${text.name}: line ${fault.row} ${fault.cause} (${CAUSES[fault.cause]}). `
+        + "The lines before it are shown.");
+    }
+    return lines;
   }
   /** The lanes of a text's lines. Lines of their own get new lanes, with their names or the file's
    * name. */
@@ -177,7 +198,7 @@ class Page {
   tellCounts() {
     const { session } = this.painter, chips = [];
     const kinds = {
-      refused: "bad", dropped: "bad", unsealed: "bad", forged: "bad",
+      refused: "bad", dropped: "bad", unsealed: "bad", forged: "bad", held: "bad",
       sealed: "good", passed: "good", read: "good",
       lost: "link", added: "link", repeated: "link", moved: "link", altered: "link",
     };
@@ -196,7 +217,8 @@ class Page {
   }
   tellTexts() {
     const choices = [...LANES.map((lane) => [lane, LANE_TITLES[lane]]),
-      ["both", "the device's line, % and the link"], ["own", "a line of its own"],
+      ["both", "the device's line, % and the link"], ...Object.entries(END_TITLES),
+      ["own", "a line of its own"],
       ["notes", "notes"], ["none", "not shown"]];
     byId("texts").replaceChildren(...this.current.texts.map((text) => {
       const row = element("div"), select = element("select");
@@ -217,6 +239,7 @@ class Page {
     const own = {
       device: "before the transmitter", sent: "after the transmitter",
       came: "before the receiver", received: `after the receiver, ${delay} ticks later`,
+      near: "at this box", link: "between the boxes", far: "at the remote box",
     };
     byId("labels").replaceChildren(...(session ? session.shown : []).map((lane) => {
       const label = element("div", "", session.titles[lane]);
@@ -400,7 +423,7 @@ class Page {
   paintLegend() {
     const entries = [["frame", "frame"], ["word", "word: low bytes of the number"], ["tag", "tag"],
       ["noframe", "no frame"], ["other", "not live"], ["fill", "fill"], ["altered", "altered"],
-      ["altered lost", "didn't come"], ["altered added", "added or repeated"],
+      ["altered lost", "didn't come, or held back"], ["altered added", "added or repeated"],
       ["spoiled", "spoiled"]];
     byId("legend").replaceChildren(...entries.map(([name, title]) => {
       const entry = element("span"), swatch = element("i", name);

@@ -6,6 +6,7 @@ const LANES = ["device", "sent", "came", "received"];
 const LANE_TITLES = {
   device: "the device's line", sent: "the link as sent",
   came: "the link as it came", received: "the received line",
+  near: "the device's wires", link: "the link's wires", far: "the remote device's wires",
 };
 
 // What a byte is.
@@ -36,7 +37,7 @@ function guessProtocol(lanes) {
     if (line.bytes[place] === 5 && line.bytes[place + 1] === 0x64) dnp++;
   }
   const short = 2 * dnp > looked ? "dnp3" : "rtu", long = short === "rtu" ? "rtu24" : "dnp24";
-  const link = lanes.sent || lanes.came;
+  const link = lanes.sent || lanes.came || lanes.link;
   return link && trailers(link, PROTOCOLS[long]) > trailers(link, PROTOCOLS[short]) ? long : short;
 }
 
@@ -52,36 +53,49 @@ function trailers(link, protocol) {
 }
 
 class Session {
-  /** `titles` are the names of lanes; one that isn't named there has its usual name. */
-  constructor(word, lanes, notes, titles = {}) {
+  /** `titles` are the names of lanes; one that isn't named there has its usual name. `ends` are
+   * those of a two-wire line, if it is one. */
+  constructor(word, lanes, notes, titles = {}, ends = null) {
     this.word = word;
+    this.ends = ends;
     this.protocol = PROTOCOLS[word];
     this.lanes = lanes;
     this.titles = { ...LANE_TITLES, ...titles };
-    const own = Object.keys(lanes).filter((lane) => !LANES.includes(lane));
-    this.shown = LANES.filter((lane) => lanes[lane]).concat(own);
+    this.shown = this.arrange();
     this.ticks = Math.max(1, ...this.shown.map((lane) => lanes[lane].ticks));
     // The ticks up to the last byte of all lines; behind it is silence that the boxes added.
-    const ends = this.shown.map((lane) => lanes[lane]).filter((line) => line.bursts > 0)
+    const lasts = this.shown.map((lane) => lanes[lane]).filter((line) => line.bursts > 0)
       .map((line) => line.end(line.bursts - 1));
-    this.span = Math.min(this.ticks, Math.max(60, ...ends) + CUT);
-    this.sealAt = new Map();
-    this.checkAt = new Map();
-    this.readAt = new Map();
-    this.forgedAt = new Map();
+    this.span = Math.min(this.ticks, Math.max(60, ...lasts) + CUT);
     this.strays = [];
     this.counts = new Map();
-    this.homes = this.homesOf();
+    this.prepare();
     for (const note of notes) this.take(note);
     const { sent, came } = lanes;
     this.comparison = sent && came ? new Comparison(sent, came, this.protocol) : null;
     this.troubles = this.findTroubles();
   }
+  /** The lanes in the order in which they are shown: those of the boxes, and then all others. */
+  arrange() {
+    const own = Object.keys(this.lanes).filter((lane) => !LANES.includes(lane));
+    return LANES.filter((lane) => this.lanes[lane]).concat(own);
+  }
+  /** Makes room for the notes. */
+  prepare() {
+    this.sealAt = new Map();
+    this.checkAt = new Map();
+    this.readAt = new Map();
+    this.forgedAt = new Map();
+    this.homes = this.homesOf();
+  }
   take(note) {
+    if (note.word === "held") {
+      return void this.strays.push(`${note.text}: this is a note of a two-wire line`);
+    }
     const { notes, lane } = this.homes[note.word];
     const told = notes.get(note.tick);
     if (told && told.word === note.word && told.why === note.why
-      && told.number === note.number && told.length === note.length) return;
+      && told.number === note.number && told.length === note.length) return undefined;
     if (told) this.strays.push(`two notes of tick ${note.tick}: ${told.text}; ${note.text}`);
     const shift = lane === "received" && note.word !== "read" ? this.protocol.delay : 0;
     const line = this.lanes[lane], burst = line ? line.burstAt(note.tick + shift) : 0;
@@ -93,6 +107,7 @@ class Session {
     notes.set(note.tick, note);
     this.count(note.word, 1);
     if (note.why) this.count(`${note.word} ${note.why}`, 1);
+    return undefined;
   }
   /** For each word the notes among which a note belongs, and the lane whose burst it names. */
   homesOf() {
@@ -108,6 +123,10 @@ class Session {
   count(word, by) {
     this.counts.set(word, (this.counts.get(word) || 0) + by);
   }
+  /** Whether a lane is a link, whose frames have a number and a tag behind them. */
+  isLink(lane) {
+    return lane === "sent" || lane === "came";
+  }
   /** The note of a burst: of `seal` on the first two lanes, of `check` on the next two, and none on
    * those that no box reads or writes. */
   noteOf(lane, burst) {
@@ -115,6 +134,14 @@ class Session {
     const start = this.lanes[lane].start(burst);
     if (lane === "device" || lane === "sent") return this.sealAt.get(start);
     return this.checkAt.get(lane === "came" ? start : start - this.protocol.delay);
+  }
+  /** All notes of a burst, and what the page says of one. */
+  notesOf(lane, burst) {
+    const note = this.noteOf(lane, burst);
+    return note ? [note] : [];
+  }
+  textOf(note) {
+    return note.text;
   }
   isForged(lane, burst) {
     const tick = this.lanes[lane].start(burst) - (lane === "received" ? this.protocol.delay : 0);
@@ -128,17 +155,21 @@ class Session {
     const from = line.first[burst], to = line.first[burst + 1];
     return line.at.subarray(from, to).some((tick) => this.readAt.has(tick));
   }
-  /** The burst of the link as it came whose bytes a received one has, or -1. */
-  sourceOf(burst) {
-    const { came, received } = this.lanes;
-    return came ? came.burstAt(received.start(burst) - this.protocol.delay) : -1;
+  /** The line from which a receiver takes what it sends on. */
+  get taken() {
+    return this.lanes.came;
   }
-  /** How many live bytes a burst has; on the received line without its fill. */
+  /** The burst of that line whose bytes a burst has that a receiver sent on, or -1. */
+  sourceOf(lane, burst) {
+    if (lane !== "received" || !this.taken) return -1;
+    return this.taken.burstAt(this.lanes.received.start(burst) - this.protocol.delay);
+  }
+  /** How many live bytes a burst has; behind a receiver without its fill. */
   lengthOf(lane, burst) {
-    const line = this.lanes[lane], source = lane === "received" ? this.sourceOf(burst) : -1;
+    const line = this.lanes[lane], source = this.sourceOf(lane, burst);
     if (source < 0) return liveCount(line, burst, this.protocol);
     const count = line.first[burst + 1] - line.first[burst];
-    return Math.min(count, liveCount(this.lanes.came, source, this.protocol));
+    return Math.min(count, liveCount(this.taken, source, this.protocol));
   }
   /** The live bytes of a burst. */
   frameOf(lane, burst) {
@@ -150,11 +181,11 @@ class Session {
     const line = this.lanes[lane], from = line.first[burst];
     const parts = new Uint8Array(line.first[burst + 1] - from);
     const live = this.lengthOf(lane, burst);
-    const isFilled = lane === "received" && this.sourceOf(burst) >= 0;
+    const isFilled = this.sourceOf(lane, burst) >= 0;
     const bytes = line.bytes.subarray(from, from + (isFilled ? parts.length : live));
     parts.fill(isFrame(bytes, this.protocol) ? FRAME : NO_FRAME, 0, live);
     parts.fill(isFilled ? FILL : OTHER, live);
-    if (lane !== "sent" && lane !== "came") return parts;
+    if (!this.isLink(lane)) return parts;
     const tick = line.at[from + live - 1] + CUT, length = this.protocol.word + this.protocol.tag;
     for (let place = live, byte = 0; place < parts.length && byte < length; place++, byte++) {
       if (line.at[from + place] !== tick + byte) break;
@@ -172,20 +203,19 @@ class Session {
         if (left !== line.bytes[from + place]) marks[place] = ALTERED_BYTE;
       }
     }
-    if (lane === "received") {
+    if (this.sourceOf(lane, burst) >= 0) {
       for (let place = start; place < last; place++) {
-        if (this.isSpoiled(burst, place)) marks[place] = SPOILED_BYTE;
+        if (this.isSpoiled(lane, burst, place)) marks[place] = SPOILED_BYTE;
       }
     }
     return marks;
   }
-  /** Whether a byte of the received line isn't the one that came, or isn't the 00 of a fill. */
-  isSpoiled(burst, place) {
-    const source = this.sourceOf(burst), { came, received } = this.lanes;
+  /** Whether a byte behind a receiver isn't the one that came, or isn't the 00 of a fill. */
+  isSpoiled(lane, burst, place) {
+    const source = this.sourceOf(lane, burst), line = this.lanes[lane], { taken } = this;
     if (source < 0) return false;
-    const byte = received.bytes[received.first[burst] + place];
-    const live = this.lengthOf("received", burst);
-    return byte !== (place < live ? came.bytes[came.first[source] + place] : 0);
+    const byte = line.bytes[line.first[burst] + place], live = this.lengthOf(lane, burst);
+    return byte !== (place < live ? taken.bytes[taken.first[source] + place] : 0);
   }
   /** What there is to say of a burst, in few words. The first says how it is painted. */
   labelOf(lane, burst) {
@@ -215,11 +245,14 @@ class Session {
     if (lane !== "came" || !this.comparison) return 0;
     return this.comparison.fate[burst] >= REPEATED ? 1 : 0;
   }
+  /** Whether the trouble of a burst arose in this lane. */
+  isHome(lane) {
+    return lane !== "received" || !this.lanes.came;
+  }
   /** The places of trouble in the order of their ticks; one for each burst, in the lane where it
    * arose. */
   findTroubles() {
     const found = [];
-    const homes = this.shown.filter((lane) => lane !== "received" || !this.lanes.came);
     this.levels = {};
     if (this.comparison) {
       const { fate, reached } = this.comparison;
@@ -231,7 +264,7 @@ class Session {
       const line = this.lanes[lane], levels = new Uint8Array(line.bursts);
       for (let burst = 0; burst < line.bursts; burst++) {
         levels[burst] = this.levelOf(lane, burst);
-        if (levels[burst] > 0 && homes.includes(lane)) {
+        if (levels[burst] > 0 && this.isHome(lane, burst)) {
           found.push({ tick: line.start(burst), lane, burst });
         }
       }

@@ -197,7 +197,7 @@ const NOTE = new RegExp(
   + "|(unsealed) at " + DECIMAL + " (form|early|spent)"
   + "|(refused) at " + DECIMAL + " (trailer|form|number|tag)"
   + "|(dropped) at " + DECIMAL + " (busy|head)"
-  + "|(read) at " + DECIMAL + " (" + HEX + "))$");
+  + "|(read) at " + DECIMAL + " (" + HEX + ")|(held) at " + DECIMAL + ")$");
 
 /** One line of notes, or null where it is none. */
 function readNote(text) {
@@ -208,8 +208,8 @@ function readNote(text) {
     const number = Number(m[2]), tick = Number(m[3]);
     return { text, word: m[1], number, tick, length, why: "" };
   }
-  const group = m[6] ? 6 : m[9] ? 9 : m[12] ? 12 : 15;
-  const why = group === 15 ? "" : m[group + 2];
+  const group = [6, 9, 12, 15, 18].find((place) => m[place]);
+  const why = group === 18 ? "held" : group === 15 ? "" : m[group + 2];
   return { text, word: m[group], number: -1, tick: Number(m[group + 1]), length: 0, why };
 }
 

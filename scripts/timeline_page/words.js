@@ -46,9 +46,10 @@ const DNP3_FUNCTIONS = {
   131: "authentication response",
 };
 
-/** What a note says of its burst, for the profile and protocol of the session. */
-function meaningOf(note, protocol) {
-  const spaced = protocol.delay + 3, delay = protocol.delay;
+/** What a note says of its burst, for the profile and protocol of the session. A frame that passed
+ * leaves so many ticks later. */
+function meaningOf(note, protocol, delay = protocol.delay) {
+  const spaced = protocol.delay + 3;
   return {
     sealed: "It is a frame. It is forwarded, and its number and tag stand behind it.",
     form: note.word === "unsealed"
@@ -62,6 +63,7 @@ function meaningOf(note, protocol) {
     tag: "Its tag isn't that of its number and its bytes. It leaves with a wrong ending.",
     busy: "It begins while the bytes of an earlier burst still leave. Nothing of it leaves.",
     head: "It begins with no good header. Nothing of it leaves.",
+    held: "Somebody else may talk when it would begin. The gate keeps all of it back.",
     read: "The device reads it.",
     forged: "It passed, and wasn't sealed with this number.",
   }[note.why || note.word];
