@@ -47,7 +47,7 @@ CHECKS = [
     Check("audit", ("program",), ["330", "PROGRAM"], ["3300", "PROGRAM", "2"], ["13200", "PROGRAM", "3"]),
     Check("duplex", ("program",), ["150", "PROGRAM"], ["1500", "PROGRAM", "2"], ["6000", "PROGRAM", "3"]),
     Check("two_wire", ("program",), ["100", "PROGRAM"], ["1000", "PROGRAM", "2"], ["6000", "PROGRAM", "3"]),
-    Check("poll", ("program",), ["PROGRAM", "2", "50"], ["PROGRAM"], ["PROGRAM", "400"]),
+    Check("poll", ("program",), ["PROGRAM", "2", "50"], ["PROGRAM", "10"], ["PROGRAM"]),
     Check("try_check", ("program", "line_capture"), *same("PROGRAM")),
     Check("closed_streams", ("program",), *same("PROGRAM")),
     Check("init_over", ("program",), *same("PROGRAM")),

@@ -13,6 +13,9 @@ With --instructions valgrind counts instructions, once for each command and over
 depends only on the build, not on what else the machine does. With OTHER, the last version, it ends with 1 if PROGRAM takes over
 PERCENT % (5 % if not given) more than OTHER for some command. A command that OTHER doesn't know is counted without a comparison.
 
+Over the same recordings `two_wire`, which takes single ticks, may take at most TWO_WIRE_MOST times what `duplex` takes, in time and in
+instructions. Else it ends with 1.
+
 PROGRAM and OTHER are programs, or checkouts of this repository in which `make demo` has built one.
 FOLDER should be in memory (/dev/shm), since numbers are synced. The lines are the same in each run.
 It ends with 1 if a run doesn't end well or the two programs write different things, and with 2 if a program isn't there, or valgrind
@@ -30,6 +33,8 @@ from random_lines import some_frame
 TICKS, FEW_TICKS = 4000000, 1600000
 # The ticks of a line for which one frame of `trial` counts, and the status for words that are no command.
 TICKS_OF_A_FRAME, USAGE = 400, 2
+# How many times as much as `duplex` the command `two_wire` may take.
+TWO_WIRE_MOST = 3
 
 
 class Text:
@@ -197,7 +202,7 @@ def instructions(program, words, source, written, journal):
 
 
 def count(programs, case, most, folder):
-    """Counts the instructions of each program. Returns whether all is well."""
+    """Counts the instructions of each program. Returns whether all is well, and how many millions this one takes."""
     name, source, words = case
     files = [[os.path.join(folder, "%s.%d" % (kind, place)) for kind in ("out", "log", "journal")] for place in range(len(programs))]
     key = os.path.join(folder, "key")
@@ -213,13 +218,23 @@ def count(programs, case, most, folder):
         line += " %9.2f %+7.1f %%%s%s" % (other, over, "   MORE" if over > most else "", "" if same else "   DIFFERS")
         well = well and other_status == 0 and same and over <= most
     print(line + ("" if status == 0 else "   status %d" % status), flush=True)
-    return well
+    return well, taken
+
+
+def wires_beside_pairs(taken):
+    """Prints how many times as much as `duplex` the command `two_wire` takes, from what each case takes. Returns whether it may."""
+    ratios = {name: taken[name] / taken[name.replace("two_wire", "duplex")] for name in taken
+              if name.startswith("two_wire") and taken.get(name.replace("two_wire", "duplex"))}
+    for name, ratio in ratios.items():
+        print("%-22s %9.2f times duplex%s" % (name, ratio, "   MORE" if ratio > TWO_WIRE_MOST else ""))
+    return all(ratio <= TWO_WIRE_MOST for ratio in ratios.values())
 
 
 def count_all(programs, cases, most, folder):
     print("%-22s %s, in millions of instructions" % ("case", "this one, the other one" if len(programs) > 1 else "this one"), flush=True)
-    well = [count(programs, case, most, folder) for case in cases]
-    print("all is well" if all(well) else "%d of %d cases are not as they should be" % (well.count(False), len(well)))
+    counted = [count(programs, case, most, folder) for case in cases]
+    well = [fine for fine, _ in counted] + [wires_beside_pairs({case[0]: taken for case, (_, taken) in zip(cases, counted)})]
+    print("all is well" if all(well) else "%d of %d are not as they should be" % (well.count(False), len(well)))
     return 0 if all(well) else 1
 
 
@@ -242,7 +257,7 @@ def measure(programs, case, rounds, folder):
         same = same and all(filecmp.cmp(a, b, shallow=False) for a, b in zip(*files))
         line += "   ratio %.2f, least %.2f%s" % (statistics.median(ratios), min(times[0]) / min(times[1]), "" if same else "   DIFFERS")
     print(line + ("" if statuses == {0} else "   status %s" % sorted(statuses)), flush=True)
-    return same
+    return same, min(times[0])
 
 
 def program_at(path):
@@ -267,17 +282,18 @@ def main():
         return 2
     ticks = asked.ticks or (FEW_TICKS if asked.instructions else TICKS)
     with tempfile.TemporaryDirectory(prefix="measure.", dir=asked.work) as folder:
-        cases = [case for case in cases_of(folder, ticks) if asked.only in case[0]]
+        cases = [case for case in cases_of(folder, ticks) if any(word in case[0] for word in asked.only.split(","))]
         if not cases:
-            sys.exit("measure: no case has `%s` in its name" % asked.only)
+            sys.exit("measure: no case has one of `%s` in its name" % asked.only)
         make_inputs(folder, ticks)
         with open(os.path.join(folder, "key"), "w") as file:
             file.write(KEY)
         if asked.instructions:
             return count_all(programs, cases, asked.most, folder)
         print("%-22s %9s %13s %9s" % ("case", "CPU time", "input read", "memory"), flush=True)
-        same = [measure(programs, case, asked.rounds, folder) for case in cases]
-    return 0 if all(same) else 1
+        measured = [measure(programs, case, asked.rounds, folder) for case in cases]
+        may = wires_beside_pairs({case[0]: seconds for case, (_, seconds) in zip(cases, measured)})
+    return 0 if may and all(same for same, _ in measured) else 1
 
 
 if __name__ == "__main__":

@@ -6,7 +6,9 @@
 `poll` runs for each protocol and profile, and for each of SEEDS (100) seeds, with COUNT (250) requests. In each session all requests
 must be asked, and of requests and of answers no frame may be read that wasn't sealed. In all sessions of a link together the attacker
 must have been there: of each direction fewer frames pass than are sealed, some are read, and some bursts are held back by the gate.
-A session that runs again must print the same line.
+A session that runs again must print the same line. `poll` doesn't count refused bursts, so this doesn't either.
+
+Built with no gate in its boxes, and not proved, the program printed 5 unsealed frames in 2,000 requests (seeds 0 and 1, 250 each).
 
 It ends with 1 if anything of that isn't so. It is no part of the gate.
 """
@@ -48,6 +50,7 @@ def main():
                     print("wrong:", link, seed, lines[seed].strip() or "no line")
                     wrong += 1
             sums = [[sum(way[side][what] for way in ways if way) for what in range(5)] for side in range(2)]
+            print("%-6s %d polls" % (link, count * sum(way is not None for way in ways)))
             for name, of in zip(("requests", "answers"), sums):
                 print("%-6s %-9s sealed %d passed %d held %d read %d unsealed %d" % ((link, name) + tuple(of)))
                 if not (of[PASSED] < of[SEALED] and of[HELD] and of[READ]):
