@@ -6,6 +6,7 @@
 What is on the wires is drawn from SEED (1) as for `duplex` (duplex.py), for a box of either side, with waits from the least ones
 on. The program must write the ticks that the model drives both pairs with, and its notes in their order; and the same once more if
 the wires carry an echo of what the box drives. Then the same is done with programs that are made wrong, each in one way (WRONG).
+First the worked rows (ROWS), whose texts are by hand, are compared with both.
 
 It ends with 0 only if all agree, if bursts of each kind were seen (SEEN), and if each wrong program was told from the right one. It
 is no part of the gate.
@@ -16,7 +17,27 @@ import built, duplex, model
 from audit import made_wrong
 from duplex import WAYS, word_of
 from killed import KEY
-from model import LINK_REST
+from model import LINK_REST, Y18, Y24, Rtu
+
+# Polls over two wires at both ends, as each box takes them, with the least waits that let them through, and with one tick less for the
+# master's or one more for the device's. What the box drives the link with, a line %, what it drives its device's wires with, and its
+# notes. A master asks at ticks 0 to 7, the device hears it D + 2 ticks later, and answers behind four silent ticks; it is heard D + 2
+# ticks later again. In the last row an attacker's burst would begin in the last tick of an answer. The tags are computed by openssl.
+ASK, TELL = "+01030000000ac5cd\n", "+010302002a399b\n"
+Y18_ASK, Y18_TELL = "%s-3\n+0001014c5b8d33c6d29a347013b0\n" % ASK, "%s-3\n+0001f39538b12dcd54a57ff24933\n" % TELL
+Y24_ASK, Y24_TELL = "%s-3\n+0000000165d245ba109509aa6c32ac3cfa228fd6\n" % ASK, "%s-3\n+0000000160bb1780b9f7b41c90149528e6419343\n" % TELL
+ROWS = (
+    ("rtu ab answers 45 4", ASK, "-33\n" + Y18_TELL, "-1\n%s-351\n%%\n-52\n%s-318\n" % (Y18_ASK, TELL), "sealed 1 at 0 len 8, passed 1 at 33 len 7"),
+    ("rtu ab answers 44 4", ASK, "-33\n" + Y18_TELL, "-1\n%s-351\n%%\n-377\n" % Y18_ASK, "sealed 1 at 0 len 8, held at 52, passed 1 at 33 len 7"),
+    ("rtu ba asks 20 4", "-32\n" + TELL, "-1\n" + Y18_ASK, "-33\n%s-302\n%%\n-20\n%s-331\n" % (Y18_TELL, ASK), "passed 1 at 1 len 8, sealed 1 at 32 len 7"),
+    ("rtu ba asks 21 4", "-32\n" + TELL, "-1\n" + Y18_ASK, "-33\n%s-302\n%%\n-359\n" % Y18_TELL, "held at 20, passed 1 at 1 len 8, sealed 1 at 32 len 7"),
+    ("rtu24 ab answers 57 4", ASK, "-39\n" + Y24_TELL, "-1\n%s-357\n%%\n-64\n%s-318\n" % (Y24_ASK, TELL), "sealed 1 at 0 len 8, passed 1 at 39 len 7"),
+    ("rtu24 ab answers 56 4", ASK, "-39\n" + Y24_TELL, "-1\n%s-357\n%%\n-389\n" % Y24_ASK, "sealed 1 at 0 len 8, held at 64, passed 1 at 39 len 7"),
+    ("rtu24 ba asks 26 4", "-38\n" + TELL, "-1\n" + Y24_ASK, "-39\n%s-296\n%%\n-26\n%s-331\n" % (Y24_TELL, ASK), "passed 1 at 1 len 8, sealed 1 at 38 len 7"),
+    ("rtu24 ba asks 27 4", "-38\n" + TELL, "-1\n" + Y24_ASK, "-39\n%s-296\n%%\n-365\n" % Y24_TELL, "held at 26, passed 1 at 1 len 8, sealed 1 at 38 len 7"),
+    ("rtu ba asks 19 4", "-42\n" + TELL, Y18_ASK + "-4\n+5501060001beefe826\n", "-43\n%s-302\n%%\n-19\n%s-342\n" % (Y18_TELL, ASK),
+     "passed 1 at 0 len 8, refused at 29 trailer, held at 48, sealed 1 at 42 len 7"),
+)
 
 Wires = collections.namedtuple("Wires", "both side window pause")
 
@@ -74,6 +95,22 @@ def difference(program, wires, key):
     return None, seen
 
 
+def rows_differ(program, key):
+    """The worked rows of which the program or the model makes something else."""
+    found = []
+    for words, device, link, out, notes in ROWS:
+        word, way, side, window, pause = words.split()
+        profile, direction = Y24 if word.endswith("24") else Y18, 0 if way == "ab" else 1
+        waits, lists = (side, int(window), int(pause)), (model.ticks_of(device), model.ticks_of(link))
+        to_link, to_device, modelled = model.two_wire(Rtu, key, direction, waits, *lists, profile)
+        status, wrote, noted = program.run(["two_wire"] + words.split() + [program.key_file], device + "%\n" + link)
+        if (model.canonical(to_link) + "%\n" + model.canonical(to_device), ", ".join(modelled)) != (out, notes):
+            found.append("of the row `%s` the model makes\n%s%%\n%s%s" % (words, model.canonical(to_link), model.canonical(to_device), modelled))
+        if (status, wrote, ", ".join(noted)) != (0, out, notes):
+            found.append("of the row `%s` the program makes\n%s%s" % (words, wrote, noted))
+    return found
+
+
 def differences(program, lines, seed, first_only=False):
     chance, key, seen, found = random.Random(seed), bytes.fromhex(KEY.strip()), collections.Counter(), []
     for turn in range(lines):
@@ -93,7 +130,9 @@ def main(words):
     lines = int(words[0]) if words else 500
     path, seed, missed = built.program(words, 1), int(words[2]) if len(words) > 2 else 1, 0
     with tempfile.TemporaryDirectory(prefix="two_wire.") as folder:
-        found, seen = differences(Program(path, folder), lines, seed)
+        program = Program(path, folder)
+        found, seen = differences(program, lines, seed)
+        found = rows_differ(program, bytes.fromhex(KEY.strip())) + found
         for name in SEEN:
             print("%7d %s" % (seen[name], name))
         found += ["never seen: %s" % name for name in SEEN if not seen[name]]
