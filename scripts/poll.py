@@ -5,7 +5,8 @@
 
 `poll` runs for each protocol and profile, and for each of SEEDS (100) seeds, with COUNT (250) requests. In each session all requests
 must be asked, and of requests and of answers no frame may be read that wasn't sealed. In all sessions of a link together the attacker
-must have been there: of each direction fewer frames pass than are sealed, some are read, and some bursts are held back by the gate.
+must have been there: of each direction fewer frames pass than are sealed, some are read, and of MANY requests or more the gate holds
+some bursts back.
 A session that runs again must print the same line. `poll` doesn't count refused bursts, so this doesn't either.
 
 Built with no gate in its boxes, and not proved, the program printed 5 unsealed frames in 2,000 requests (seeds 0 and 1, 250 each).
@@ -20,6 +21,8 @@ import built
 LINKS = ("rtu", "rtu24", "dnp3", "dnp24")
 WAY = r"sealed (\d+) passed (\d+) held (\d+) read (\d+) unsealed (\d+)"
 LINE = re.compile(r"poll (\w+) (\d+) (\d+) asked (\d+) requests %s answers %s\n" % (WAY, WAY))
+# With so many requests the gate holds something back for sure: in DNP3 some sessions of 250 have no burst that it holds.
+MANY = 2000
 SEALED, PASSED, HELD, READ, UNSEALED = range(5)
 
 
@@ -53,7 +56,7 @@ def main():
             print("%-6s %d polls" % (link, count * sum(way is not None for way in ways)))
             for name, of in zip(("requests", "answers"), sums):
                 print("%-6s %-9s sealed %d passed %d held %d read %d unsealed %d" % ((link, name) + tuple(of)))
-                if not (of[PASSED] < of[SEALED] and of[HELD] and of[READ]):
+                if not (of[PASSED] < of[SEALED] and of[READ] and (of[HELD] or seeds * count < MANY)):
                     print("wrong: the attacker wasn't there")
                     wrong += 1
             if line_of(program, link, 0, count) != lines[0]:
