@@ -118,8 +118,12 @@ def test_wires(page):
 def look_at_parts(page, texts):
     """Checks an end alone, with and without what its box wrote, words that are refused, and notes that belong elsewhere."""
     checked, (read, drives, notes) = page.checked, texts["far"]
-    page.make("any", *words_of(page, {"near": (read, drives, notes)}))
+    acts = os.path.join(EXAMPLES, "expected", "wires_device.gated_acts.txt")
+    page.make("any", *words_of(page, {"near": (read, drives, notes)}), "near.notes=" + acts)
     checked.equal("one end: messages", page.messages(), [])
+    checked.true("what the device reads: %r" % page.chips(), "read 2" in page.chips())
+    for tick, note in zip((20, 120), content("expected", "wires_device.gated_acts.txt").splitlines()):
+        checked.true("%s: %r" % (note, page.hover("near", tick)), note in page.hover("near", tick))
     checked.true("one end: what is held", "held at 49 · this box" in page.hover("near", 50))
     checked.equal("who said it isn't known of the link", [row for row in page.hover("link", 30) if row.startswith("said")], [])
     page.make("rtu", "near=" + put(page, "near", read), "near.notes=" + put(page, "notes", notes), "title.near=the pump")

@@ -141,6 +141,7 @@ class WireSession extends Session {
     return notes.find((note) => note.why) || notes[0];
   }
   textOf(note) {
+    if (note.word === "read") return note.text;
     return `${note.text} · ${note.end === "near" ? "this box" : "the remote box"}`;
   }
   isForged() {
