@@ -4,7 +4,7 @@ ghost use Rattle.sequence_journal.specs.declared.numbers.TheConstants.{LIMIT};
 ghost use Rattle.session_audit.specs.Sessions.{IsSession, max_recorded};
 
 use command_ends::{Profile, Proto};
-use session_audit::{Counts, Dir, Finding, ReadFrame, Session, audit};
+use session_audit::{Counts, Dir, Finding, ReadFrame, Session, Tolerance, audit};
 use std::alloc::Global;
 use std::process::Abort;
 use std::test::Fail;
@@ -100,6 +100,7 @@ fn session_of(link: Link, sent_floor: u64, got_floor: u64) -> Session<'static>
         key: &KEY,
         sent_floor,
         got_floor,
+        tolerance: Tolerance::exact(),
     }
 }
 

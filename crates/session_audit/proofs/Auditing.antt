@@ -8,20 +8,25 @@ use Rattle.dnp_link_frame.specs.RulesLaws.{dnp_lawful, dnp_headed}
 use Rattle.link_format.specs.NumberedFrame.{NumberedFrame, numbers_of}
 use Rattle.link_format.specs.{Profile.delay, Setup.Setup}
 use Rattle.receiver_laws.proofs.Accounting.{sealed-rise, rising-accounted}
-use Rattle.receiver_laws.proofs.Headline.{all-stay, bytes-delivered, passed-sealed}
+use Rattle.receiver_laws.proofs.Headline.{all-stay, passed-sealed}
 use Rattle.receiver_laws.proofs.{Rising.have_passed, Stated.stated_fit, Stated.stated_reads_all}
 use Rattle.receiver_laws.specs.Accounted.{forged, is_among, pair_of, pairs_of, IsSubsequence}
 use Rattle.receiver_laws.specs.{Accounted.IsAccountedFor, AllLeft.ReadsAllThatPassed}
 use Rattle.receiver_laws.specs.{Headline.bytes_read, Headline.bytes_sealed, Reading.delivered}
 use Rattle.receiver_laws.specs.Fitting.{StatedProfile.of_y18, StatedProfile.of_y24}
-use Rattle.session_lists.proofs.Comparing.{none-before}
-use Rattle.session_lists.specs.Comparison.{is_same_read, first_difference, read_later}
-use Rattle.session_lists.specs.Comparison.{difference_at, difference_of}
+use Rattle.session_audit.proofs.Lately.{no-difference, differs-nowhere, within-bytes}
+use Rattle.session_audit.proofs.Lately.{within-length, within-exact, within-itself}
+use Rattle.session_audit.proofs.Lately.{expected-bytes, expected-unspaced}
+use Rattle.session_lists.proofs.Comparing.{length-expected}
+use Rattle.session_lists.specs.Comparison.{first_difference, difference_at, difference_of}
+use Rattle.session_lists.specs.Lateness.{AreReadWithin}
+use Rattle.session_lists.specs.declared.lateness.Lateness.{Lateness}
 use Rattle.session_lists.specs.declared.comparison.Difference.{Difference}
 use Rattle.rtu_frame.specs.Rules.{rtu_rules, rtu_lawful, rtu_headed}
 use Rattle.sequence_journal.specs.{Uptimes.RiseFrom, declared.numbers.TheConstants.LIMIT}
 use Rattle.session_audit.specs.{AuditedInput.AuditsInput, Clean.IsClean, Sessions.LinkKind}
-use Rattle.session_audit.specs.Sessions.{sent_profile, got_profile}
+use Rattle.session_audit.specs.Sessions.{sent_profile, got_profile, lateness_in, expected_in}
+use Rattle.session_audit.specs.Sessions.{spacing_of}
 use Rattle.session_audit.specs.Sessions.{sealed_in_session, passed_in_session, read_in, line_received, verdict_with}
 use Rattle.session_audit.specs.{Sessions.verdict_of_session, Verdicts.finding_by}
 use Rattle.session_audit.specs.Verdicts.{are_none, counts_of}
@@ -37,39 +42,6 @@ use Rattle.std.proofs.lemmas.{Bool.cond-false, Bool.cond_both, Slice.Eq.bytes_eq
 use Rattle.std.proofs.lemmas.List.{length-map}
 use Rattle.{std.specs.Prelude.IfOk, tick_drive.specs.declared.end.End.End}
 use Rattle.yasir_ticks.specs.{Ticks.AreTicks, declared.tick.Tick.Tick}
-
--- ---- lists of reads
-
-same-read : (f g : FrameRead) → is_same_read f g ≡ true → f ≡ g
-same-read f g same =
-    let parts = and_parts (f.start == g.start) (bytes_eq f.frame g.frame) same in
-    let start : f.start ≡ g.start = eqb-true f.start g.start parts.0 in
-    let frame : f.frame ≡ g.frame = (bytes_eq-Decides f.frame g.frame).0 parts.1 in
-    let read : ℕ → List ℕ → FrameRead = λ s x. record { start = s; frame = x } in
-    ap (λ s. read s f.frame) start ∙ ap (λ x. read g.start x) frame
-
-read-itself : (f : FrameRead) → is_same_read f f ≡ true
-read-itself f = and_from (f.start == f.start) (bytes_eq f.frame f.frame)
-    (eq-eqb f.start f.start refl) ((bytes_eq-Decides f.frame f.frame).1 refl)
-
--- Two lists without a difference are equal.
-pub no-difference : (x y : List FrameRead) → first_difference x y ≡ None → x ≡ y
-no-difference [] [] none = refl
-no-difference [] (g ∷ y) none = cc
-no-difference (f ∷ x) [] none = cc
-no-difference (f ∷ x) (g ∷ y) none =
-    ⊎_elim
-    (λ same.
-    let rest : option_map suc (first_difference x y) ≡ None = sym (cond-true _ _ _ same) ∙ none in
-    ap (λ a. a ∷ x) (same-read f g same)
-    ∙ ap (λ l. g ∷ l) (no-difference x y (none-before (first_difference x y) rest)))
-    (λ other. let never : Some 0 ≡ None = sym (cond-false _ _ _ other) ∙ none in cc)
-    (cases_Bool (is_same_read f g))
-
--- A list doesn't differ from itself.
-pub differs-nowhere : (x : List FrameRead) → first_difference x x ≡ None
-differs-nowhere [] = refl
-differs-nowhere (f ∷ x) = cond-true _ _ _ (read-itself f) ∙ ap (option_map suc) (differs-nowhere x)
 
 -- ---- verdicts
 
@@ -125,40 +97,50 @@ some-sealed counts some few same = ⊎_elim
 -- ---- a session
 
 module _ (kind : LinkKind) (session : Session) where
+  abbrev late : Lateness
+  late = lateness_in kind session
+
   pub clean-says : IsLawful kind.rules → (device link received : List Tick) (counts : Counts)
       → verdict_with kind session device link received ≡ record { counts = counts; finding = Clean }
       → IsClean kind session device link received counts
   clean-says lawful device link received counts is =
-      let late : ℕ = delay (got_profile kind session) in
       let S : List NumberedFrame = sealed_in_session kind session device in
       let P : List NumberedFrame = passed_in_session kind session link in
       let X : List FrameRead = read_in kind session received in
-      let E : List FrameRead = map (read_later late) P in
+      let E : List FrameRead = expected_in kind session link in
       let counted : counts_of S P X ≡ counts = ap (λ v. v.counts) is in
-      let parts = clean-by (are_none (counts_of S P X)) (forged S P) (difference_of E X)
+      let parts = clean-by (are_none (counts_of S P X)) (forged S P) (difference_of late E X)
       (ap (λ v. v.finding) is) in
-      let nowhere : first_difference E X ≡ None =
-      none-mapped (difference_at E X) (first_difference E X) parts.same in
+      let nowhere : first_difference late E X ≡ None =
+      none-mapped (difference_at E X) (first_difference late E X) parts.same in
       let sealing : RiseFrom session.sent_floor (numbers_of S) =
       sealed-rise (sent_profile kind session) kind.rules lawful session.sent_floor _ in
       let passing : RiseFrom session.got_floor (numbers_of P) =
       (have_passed (got_profile kind session) kind.rules lawful session.got_floor _).rise in
       let accounted : IsAccountedFor session.sent_floor session.got_floor S P =
       rising-accounted session.sent_floor session.got_floor S P sealing passing in
-      let reads : E ≡ X = no-difference E X nowhere in
-      let bytes : bytes_sealed P ≡ bytes_read X =
-      sym (bytes-delivered (got_profile kind session) P) ∙ ap (λ l. bytes_read l) reads in
+      let reads : AreReadWithin session.tolerance.least session.tolerance.most E X =
+      no-difference late E X nowhere in
+      let bytes : bytes_read X ≡ bytes_sealed P =
+      within-bytes session.tolerance.least session.tolerance.most E X reads
+      ∙ expected-bytes late 0 P in
       let among : IsSubsequence (pairs_of P) (pairs_of S) =
       subst (λ l. IsSubsequence (pairs_of l) (pairs_of S))
       (all-stay (λ f. is_among S f) P parts.unforged) accounted.subsequence in
       let few : length P ≤ length S =
       subst (λ n. n ≤ length S) (length-map P pair_of)
       (subst (λ n. length (pairs_of P) ≤ n) (length-map S pair_of) (shorter among)) in
-      let long : length X ≡ length P = ap length (sym reads) ∙ length-map P (read_later late) in
+      let long : length X ≡ length P =
+      within-length session.tolerance.least session.tolerance.most E X reads
+      ∙ length-expected late 0 P in
       record {
-        read_what_passed = sym reads;
+        read_in_time = reads;
+        read_the_same = bytes;
+        read_exactly = λ plain none.
+            within-exact session.tolerance.least session.tolerance.most none E X reads
+            ∙ expected-unspaced late (ap (spacing_of kind) plain) 0 P;
         passed_what_was_sealed = among;
-        read_what_was_sealed = subst (λ l. IsSubsequence l (bytes_sealed S)) bytes
+        read_what_was_sealed = subst (λ l. IsSubsequence l (bytes_sealed S)) (sym bytes)
             (passed-sealed session.sent_floor session.got_floor S P accounted parts.unforged);
         sealed_rise = sealing;
         passed_rise = passing;
@@ -169,20 +151,35 @@ module _ (kind : LinkKind) (session : Session) where
         read_count = ap (λ (c : Counts). c.read) (sym counted);
       }
 
-  pub never-differs : (device link : List Tick) (difference : Difference)
+  -- If the frames that were read are those that should be, each in time, they don't differ.
+  pub in-time-never : (device link received : List Tick)
+      → AreReadWithin session.tolerance.least session.tolerance.most
+      (expected_in kind session link) (read_in kind session received)
+      → (difference : Difference)
+      → (verdict_with kind session device link received).finding ≢ Differs difference
+  in-time-never device link received within difference =
+      let S : List NumberedFrame = sealed_in_session kind session device in
+      let P : List NumberedFrame = passed_in_session kind session link in
+      let X : List FrameRead = read_in kind session received in
+      let E : List FrameRead = expected_in kind session link in
+      let none : difference_of late E X ≡ None =
+      ap (option_map (difference_at E X)) (differs-nowhere late E X within) in
+      never-by (are_none (counts_of S P X)) (forged S P) (difference_of late E X) difference none
+
+  pub never-differs : (device link : List Tick) → session.tolerance.spaced ≡ false
+      → session.tolerance.least ≡ 0 → (difference : Difference)
       → ReadsAllThatPassed kind.rules kind.reads (got_profile kind session) session.got_floor link
       320 4
       → (verdict_with kind session device link (line_received kind session link)).finding
       ≢ Differs difference
-  never-differs device link difference reads =
-      let profile = got_profile kind session in
-      let P : List NumberedFrame = passed_in_session kind session link in
-      let X : List FrameRead = read_in kind session (line_received kind session link) in
-      let E : List FrameRead = map (delivered profile) P in
-      let none : difference_of E X ≡ None = ap (option_map (difference_at E X))
-      (ap (λ l. first_difference E l) reads ∙ differs-nowhere E) in
-      never-by (are_none (counts_of (sealed_in_session kind session device) P X))
-      (forged (sealed_in_session kind session device) P) (difference_of E X) difference none
+  never-differs device link plain none difference reads =
+      let E : List FrameRead = expected_in kind session link in
+      let same : E ≡ read_in kind session (line_received kind session link) =
+      expected-unspaced late (ap (spacing_of kind) plain) 0 (passed_in_session kind session link)
+      ∙ sym reads in
+      in-time-never device link (line_received kind session link)
+      (subst (λ x. AreReadWithin session.tolerance.least session.tolerance.most E x) same
+      (within-itself session.tolerance.least session.tolerance.most none E)) difference
 
 -- ---- both protocols, with both profiles
 

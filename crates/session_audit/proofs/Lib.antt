@@ -3,7 +3,8 @@ pub mod LastNotes
 pub mod Starting
 pub mod RunNotes
 pub mod Showing
-pub mod Auditing
+pub mod Lately
+mod Auditing
 pub mod Judged
 pub mod SealedAlike
 pub mod Starts

@@ -1,6 +1,6 @@
 -- A session that has ended, and the verdict on three recordings of it: the line of the device that
 -- sends, the link, and the line of the device that receives.
-use Rattle.std.specs.Prelude.{ℕ, ◌+◌, ◌≤◌, List, ◌++◌, length}
+use Rattle.std.specs.Prelude.{ℕ, ◌+◌, ◌≤◌, Bool, true, false, List, ◌++◌, length, Option, Some, None}
 use Rattle.yasir_ticks.specs.Ticks.{silent}
 use Rattle.yasir_ticks.specs.declared.TheConstants.{T3_5_TICKS}
 use Rattle.yasir_ticks.specs.declared.tick.Tick.{Tick}
@@ -13,9 +13,14 @@ use Rattle.sequence_journal.specs.declared.numbers.TheConstants.{LIMIT}
 use Rattle.link_box.specs.Sealing.{sealed}
 use Rattle.link_box.specs.Checking.{passed, received_line}
 use Rattle.command_ends.specs.Links.{rules_of, label_of, link_profile_of, device_reads}
+use Rattle.command_ends.specs.Links.{gap_of, silence_of}
+use Rattle.session_lists.specs.Lateness.{expected_reads}
 use Rattle.session_lists.specs.Listed.{link_rest}
+use Rattle.session_lists.specs.declared.lateness.Lateness.{Lateness}
+use Rattle.session_lists.specs.declared.lateness.Spacing.{Spacing}
 use Rattle.session_audit.specs.Verdicts.{verdict_on}
 use Rattle.session_audit.specs.declared.session.Session.{Session}
+use Rattle.session_audit.specs.declared.session.Tolerance.{Tolerance}
 use Rattle.session_audit.specs.declared.verdict.Verdict.{Verdict}
 
 -- Holds if each floor is at most `LIMIT`.
@@ -44,11 +49,14 @@ got_setup session = setup_of session.key.now session.dir session.got_floor
 -- ---- the protocol and the profile of a session
 
 -- what belongs to a protocol and a profile: the profile of the link for a setup, the rules of the
--- protocol, and what the protocol's stated device reads
+-- protocol, what the protocol's stated device reads, how many silent ticks after a frame's last byte
+-- it does so, and how many silent ticks a spacer leaves between frames
 pub record LinkKind : Type 0 where
   pub profile : Setup → Profile
   pub rules : Rules
   pub reads : List Tick → List FrameRead
+  pub silence : ℕ
+  pub gap : ℕ
 
 -- what belongs to the protocol and the profile of a session
 abbrev pub kind_of : Session → LinkKind
@@ -56,6 +64,28 @@ kind_of session = record {
   profile = link_profile_of session.profile (label_of session.proto) LIMIT;
   rules = rules_of session.proto;
   reads = device_reads session.proto;
+  silence = silence_of session.proto;
+  gap = gap_of session.profile;
+}
+
+-- ---- when frames must be read
+
+-- the tolerance of a line behind the receiver in which nothing is late
+abbrev pub exact : Tolerance
+exact = record { least = 0; most = 0; spaced = false }
+
+-- the spacer behind the receiver, if there is one
+abbrev pub spacing_of : LinkKind → Bool → Option Spacing
+spacing_of kind true = Some (record { silence = kind.silence; gap = kind.gap })
+spacing_of kind false = None
+
+-- when the frames that passed must be read, if the receiver is `late` ticks late
+abbrev pub lateness_of : LinkKind → ℕ → Tolerance → Lateness
+lateness_of kind late tolerance = record {
+  late = late;
+  spacing = spacing_of kind tolerance.spaced;
+  least = tolerance.least;
+  most = tolerance.most;
 }
 
 -- ---- what the recordings say
@@ -85,6 +115,14 @@ module _ (kind : LinkKind) (session : Session) where
   abbrev pub read_in : List Tick → List FrameRead
   read_in received = kind.reads (received ++ silent T3_5_TICKS)
 
+  -- when the frames that passed must be read
+  abbrev pub lateness_in : Lateness
+  lateness_in = lateness_of kind (delay got_profile) session.tolerance
+
+  -- the frames that should be read, given those that pass of the link
+  abbrev pub expected_in : List Tick → List FrameRead
+  expected_in link = expected_reads lateness_in (passed_in_session link)
+
   -- what the session's receiver sends for the link, up to the last byte that it holds back
   abbrev pub line_received : List Tick → List Tick
   line_received link =
@@ -94,7 +132,7 @@ module _ (kind : LinkKind) (session : Session) where
   -- and the line of the device that receives
   abbrev pub verdict_with : List Tick → List Tick → List Tick → Verdict
   verdict_with device link received =
-      verdict_on (delay got_profile) (sealed_in_session device) (passed_in_session link) (read_in received)
+      verdict_on lateness_in (sealed_in_session device) (passed_in_session link) (read_in received)
 
 -- the verdict on three recordings of a session, by its protocol and its profile
 abbrev pub verdict_of_session : Session → List Tick → List Tick → List Tick → Verdict

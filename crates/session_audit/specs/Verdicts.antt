@@ -1,11 +1,13 @@
 -- The verdict of an audit on what was sealed, what passed, and what was read.
-use Rattle.std.specs.Prelude.{ℕ, ◌==◌, ◌&&◌, Bool, true, false, List, [], ◌∷◌, length, Option}
+use Rattle.std.specs.Prelude.{◌==◌, ◌&&◌, Bool, true, false, List, [], ◌∷◌, length, Option}
 use Rattle.std.specs.Prelude.{Some, None}
 use Rattle.device_model.specs.Frames.{FrameRead}
 use Rattle.link_format.specs.NumberedFrame.{NumberedFrame}
 use Rattle.receiver_laws.specs.Accounted.{forged}
-use Rattle.session_lists.specs.Comparison.{expected_reads, difference_of}
+use Rattle.session_lists.specs.Comparison.{difference_of}
+use Rattle.session_lists.specs.Lateness.{expected_reads}
 use Rattle.session_lists.specs.declared.comparison.Difference.{Difference}
+use Rattle.session_lists.specs.declared.lateness.Lateness.{Lateness}
 use Rattle.session_audit.specs.declared.verdict.Counts.{Counts}
 use Rattle.session_audit.specs.declared.verdict.Finding.{Finding}
 use Rattle.session_audit.specs.declared.verdict.Finding.TheVariants.{Empty, Forged, Differs, Clean}
@@ -31,15 +33,17 @@ finding_by false (f ∷ more) difference = Forged f.number f.start
 finding_by false [] (Some difference) = Differs difference
 finding_by false [] None = Clean
 
--- what is found of the frames that were sealed, passed and read, if the receiver is `late` ticks
--- late
-abbrev pub finding_on : ℕ → List NumberedFrame → List NumberedFrame → List FrameRead → Finding
+-- what is found of the frames that were sealed, passed and read, if those that passed must be read
+-- as `late` says
+abbrev pub finding_on : Lateness → List NumberedFrame → List NumberedFrame → List FrameRead → Finding
 finding_on late sealed_ones passed_ones reads =
     finding_by (are_none (counts_of sealed_ones passed_ones reads))
-    (forged sealed_ones passed_ones) (difference_of (expected_reads late passed_ones) reads)
+    (forged sealed_ones passed_ones)
+    (difference_of late (expected_reads late passed_ones) reads)
 
--- the verdict on the frames that were sealed, passed and read, if the receiver is `late` ticks late
-abbrev pub verdict_on : ℕ → List NumberedFrame → List NumberedFrame → List FrameRead → Verdict
+-- the verdict on the frames that were sealed, passed and read, if those that passed must be read as
+-- `late` says
+abbrev pub verdict_on : Lateness → List NumberedFrame → List NumberedFrame → List FrameRead → Verdict
 verdict_on late sealed_ones passed_ones reads = record {
   counts = counts_of sealed_ones passed_ones reads;
   finding = finding_on late sealed_ones passed_ones reads;

@@ -1,11 +1,13 @@
 //! The verdict on lists of frames.
-ghost use Rattle.std.specs.Prelude.{◌≡◌, ℕ, List, length};
+ghost use Rattle.std.specs.Prelude.{◌≡◌, List, length};
 ghost use Rattle.device_model.specs.Frames.{FrameRead};
 ghost use Rattle.link_format.specs.NumberedFrame.{NumberedFrame, AreNumberedFrom};
 ghost use Rattle.receiver_laws.specs.Accounted.{forged};
-ghost use Rattle.session_lists.specs.Comparison.{difference_of, expected_reads};
+ghost use Rattle.session_lists.specs.Comparison.{difference_of};
 ghost use Rattle.session_lists.specs.FrameBox.{kept_frames};
 ghost use Rattle.session_lists.specs.FrameList.{Holds, ListIsWhole};
+ghost use Rattle.session_lists.specs.Lateness.{expected_reads};
+ghost use Rattle.session_lists.specs.declared.lateness.Lateness.{Lateness};
 ghost use Rattle.session_audit.specs.Judging.{first_head, AreShort};
 ghost use Rattle.session_audit.specs.Verdicts.{counts_of, finding_on, verdict_on};
 
@@ -36,7 +38,7 @@ fn first_forged(
 }
 
 // Returns what is found of the frames that were sealed and those that passed. How many there are of
-// each is given as `counts`, and what was read as its first difference from what passed.
+// each is given as `counts`, and what was read as its first difference from what should be.
 fn find(
     floor: u64,
     sealed: &FrameList<Numbered>,
@@ -46,10 +48,10 @@ fn find(
 ) -> Finding
     requires sealed { ListIsWhole sealed.now }
     requires passed { ListIsWhole passed.now }
-    ensures { (late : ℕ) (sealed_ones passed_ones : List NumberedFrame) (reads : List FrameRead)
+    ensures { (late : Lateness) (sealed_ones passed_ones : List NumberedFrame) (reads : List FrameRead)
         → Holds sealed.now (kept_frames sealed_ones) → Holds passed.now (kept_frames passed_ones)
         → counts ≡ counts_of sealed_ones passed_ones reads
-        → difference ≡ difference_of (expected_reads late passed_ones) reads
+        → difference ≡ difference_of late (expected_reads late passed_ones) reads
         → AreNumberedFrom floor sealed_ones
         → result ≡ finding_on late sealed_ones passed_ones reads }
 {
@@ -69,7 +71,7 @@ fn find(
 }
 
 /// Returns the verdict on the frames that were sealed and those that passed. What was read is given
-/// as the count of its frames and its first difference from what passed. The sealed frames must be
+/// as the count of its frames and its first difference from what should be. The sealed frames must be
 /// numbered one after the other, from `floor + 1` on.
 pub(crate) fn judge(
     floor: u64,
@@ -81,10 +83,10 @@ pub(crate) fn judge(
     requires sealed { ListIsWhole sealed.now }
     requires passed { ListIsWhole passed.now }
     requires short { AreShort sealed.now passed.now read }
-    ensures { (late : ℕ) (sealed_ones passed_ones : List NumberedFrame) (reads : List FrameRead)
+    ensures { (late : Lateness) (sealed_ones passed_ones : List NumberedFrame) (reads : List FrameRead)
         → Holds sealed.now (kept_frames sealed_ones) → Holds passed.now (kept_frames passed_ones)
         → read ≡ length reads
-        → difference ≡ difference_of (expected_reads late passed_ones) reads
+        → difference ≡ difference_of late (expected_reads late passed_ones) reads
         → AreNumberedFrom floor sealed_ones
         → result ≡ verdict_on late sealed_ones passed_ones reads }
 {

@@ -11,7 +11,7 @@
 //!
 //!     let session = Session {
 //!         proto: Proto::Rtu, profile: Profile::Y18, dir: Dir::Ab, key: &key, sent_floor: 0,
-//!         got_floor: 0,
+//!         got_floor: 0, tolerance: Tolerance::exact(),
 //!     };
 //!     match audit(alloc, &session, &device, &link, &received)?.finding {
 //!         Finding::Clean => {}
@@ -54,13 +54,16 @@ mod verdict;
 
 pub use burst_bytes::BurstBytes;
 pub use command::replay_recordings;
-pub use laws::{clean_recordings_have_only_sealed_frames, own_line_of_a_receiver_never_differs};
+pub use laws::{
+    clean_recordings_have_only_sealed_frames, frames_in_time_never_differ,
+    own_line_of_a_receiver_never_differs,
+};
 pub use link_format::Dir;
 pub use noting_box::NotingBox;
 pub use over_input::audit_input;
 pub use over_recordings::audit;
 pub use sealed_frames::SealedFrames;
-pub use session::Session;
+pub use session::{Session, Tolerance};
 pub use session_lists::{Difference, NoMemory, ReadFrame};
 pub use shown_frames::ShownFrames;
 pub use steady_disk::SteadyDisk;

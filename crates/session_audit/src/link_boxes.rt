@@ -21,7 +21,7 @@ macro_rules! audit_through {
             >,
             $device,
             $($more),*
-        >($alloc, $delay, $session, $given)
+        >($alloc, $session, $given)
     };
 }
 

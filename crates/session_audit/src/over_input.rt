@@ -18,11 +18,9 @@ use std::alloc::Global;
 use tick_drive::End;
 use yasir_io::Source;
 
-// Returns the verdict by a transmitter `S`, a receiver `C` that is `late` ticks late, and a device
-// `V`.
+// Returns the verdict by a transmitter `S`, a receiver `C`, and a device `V`.
 fn audit_input_by<S: FrameBox, C: FrameBox, V: Device + Drop, I: Source>(
     alloc: Global,
-    late: u8,
     session: &Session<'_>,
     input: &mut I,
 ) -> Result<Verdict, End>
@@ -34,12 +32,12 @@ fn audit_input_by<S: FrameBox, C: FrameBox, V: Device + Drop, I: Source>(
     requires in_time { (setup : Setup) (line : List Tick)
         → All (λ f. f.start ≤ length line) ((C.numbering setup).frames line) }
     ensures audits { AuditsInput
-        (verdict_through S.FrameBox C.FrameBox V.Device session.now late)
+        (verdict_through S.FrameBox C.FrameBox V.Device session.now)
         (I.left input.old) (I.left input.new) result }
     ensures read { IsReadCause (I.faults input.old) (I.faults input.new)
         (is_read_answer result) }
 {
-    let mut lists = lists_for::<S, C, V>(alloc, late, session);
+    let mut lists = lists_for::<S, C, V>(alloc, session);
     match list_session(&mut lists, input) {
         End::Whole => {}
         end => return Err(end),

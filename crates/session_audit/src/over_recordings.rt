@@ -23,11 +23,9 @@ struct Lines<'a> {
     received: &'a [Tick],
 }
 
-// Returns the verdict by a transmitter `S`, a receiver `C` that is `late` ticks late, and a device
-// `V`.
+// Returns the verdict by a transmitter `S`, a receiver `C`, and a device `V`.
 fn audit_by<S: FrameBox, C: FrameBox, V: Device + Drop>(
     alloc: Global,
-    late: u8,
     session: &Session<'_>,
     lines: Lines<'_>,
 ) -> Result<Verdict, NoMemory>
@@ -40,10 +38,10 @@ fn audit_by<S: FrameBox, C: FrameBox, V: Device + Drop>(
     requires in_time { (setup : Setup) (line : List Tick)
         → All (λ f. f.start ≤ length line) ((C.numbering setup).frames line) }
     ensures { IfOk result (λ verdict. verdict
-        ≡ verdict_through S.FrameBox C.FrameBox V.Device session.now late lines.entry.device.now
+        ≡ verdict_through S.FrameBox C.FrameBox V.Device session.now lines.entry.device.now
         lines.entry.link.now lines.entry.received.now) }
 {
-    let mut lists = lists_for::<S, C, V>(alloc, late, session);
+    let mut lists = lists_for::<S, C, V>(alloc, session);
     match list_lines(&mut lists, lines.device, lines.link, lines.received) {
         Ok(()) => Ok(judge_lists(session, &lists)),
         Err(NoMemory) => Err(NoMemory),

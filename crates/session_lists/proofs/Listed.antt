@@ -12,7 +12,6 @@ use Rattle.std.proofs.Common.{subst, arith}
 use Rattle.tick_drive.proofs.ItemLaws.{ticks_with, length-ticks_in-silence}
 use Rattle.tick_drive.specs.{Drive.Drives, Input.IsWhole, Input.max_ticks, Items.silent_items}
 use Rattle.tick_drive.specs.declared.end.End.{End, TheVariants.Whole}
-use Rattle.tick_drive.specs.declared.end.End.TheVariants.{Refused, TooLong, ReadFault, Stopped}
 use Rattle.tick_drive.proofs.Stopping.{stops-for-memory}
 use Rattle.tick_drive.specs.Drive.{StopsForMemory}
 use Rattle.yasir_ticks.specs.Ticks.{Item, ticks_in, silent}

@@ -5,6 +5,11 @@ use Rattle.std.proofs.Common.{◌≡◌, ◌∙◌, ℕ, zero, suc, ◌+◌, ◌
 use Rattle.std.proofs.Common.{length, take, drop, refl, ap, sym, subst, arith, length-append}
 use Rattle.std.proofs.{Common.length-drop, Common.slice_index_or, Math.Seq.drop-append_seam}
 use Rattle.std.proofs.lemmas.List.{take-append-le, drop-append-le, take_all, get_or_default}
+use Rattle.std.proofs.lemmas.List.{length-take, length-map, get_or-map, Elements.All-cons}
+use Rattle.std.specs.Prelude.{All}
+use Rattle.link_format.specs.NumberedFrame.{NumberedFrame}
+use Rattle.session_lists.specs.FrameBox.{kept_frames, kept_numbered}
+use Rattle.session_lists.specs.declared.frame_box.Numbered.{Numbered}
 
 module _ {K : Type 0} where
   ends-rise : (start end : ℕ) (entries : List (Entry K)) → AreEnds start entries end → start ≤ end
@@ -213,3 +218,31 @@ module _ {K : Type 0} where
         subst (λ x. P x before) (sym last_is)
         (subst (λ y. P (slice_index_or list.entries.items i d) y) (sym before_as)
         (holds-later list i (i - 1) d frames other next within holds))
+
+-- ---- how long the frames are
+
+module _ {K : Type 0} where
+  short-from : (start end : ℕ) (entries : List (Entry K)) (bytes : List ℕ)
+      → AreEnds start entries end
+      → All (λ (f : KeptFrames K). length f.frame ≤ longest_frame) (frames_from start entries bytes)
+  short-from start end [] bytes ends = λ k d none. absurd (omega arith)
+  short-from start end (e ∷ entries) bytes ends =
+      let by : e.end ≤ start + longest_frame = ends.1 in
+      let cut = length-take (e.end - start) (drop start bytes) in
+      All-cons (λ (f : KeptFrames K). length f.frame ≤ longest_frame)
+      (record { head = e.head; frame = take (e.end - start) (drop start bytes) })
+      (frames_from e.end entries bytes) (omega (arith, by, cut))
+      (short-from e.end end entries bytes ends.2)
+
+-- Each of the numbered frames that a list holds is at most as long as the longest one.
+pub frames-short : (list : FrameList Numbered) (frames : List NumberedFrame)
+    → Holds list (kept_frames frames)
+    → All (λ (f : NumberedFrame). length f.frame ≤ longest_frame) frames
+frames-short list frames holds = λ k d within.
+    let long = length-map frames kept_numbered in
+    let all = subst (λ (l : List (KeptFrames Numbered)).
+    All (λ (f : KeptFrames Numbered). length f.frame ≤ longest_frame) l) holds.is
+    (short-from 0 (length list.bytes.items) list.entries.items list.bytes.items holds.whole) in
+    subst (λ (f : KeptFrames Numbered). length f.frame ≤ longest_frame)
+    (get_or-map kept_numbered frames k d (kept_numbered d) within)
+    (all k (kept_numbered d) (omega (arith, within, long)))

@@ -1,5 +1,5 @@
 -- What is kept of three recordings after the first ticks of a run.
-use Rattle.device_model.specs.{Frames.FrameRead, declared.device.Device.Ghosts as Device}
+use Rattle.device_model.specs.declared.device.Device.{Ghosts as Device}
 use Rattle.link_format.specs.NumberedFrame.{NumberedFrame}
 use Rattle.std.proofs.Common.{◌≡◌, ◌∙◌, ℕ, ◌+◌, ◌≤◌, ◌<◌, List, [], ◌∷◌, ◌++◌, length, take, suc}
 use Rattle.std.proofs.Common.{Option, Ok, Err, refl, ap, sym, subst, append-nil, arith}
@@ -7,7 +7,6 @@ use Rattle.{std.proofs.lemmas.List.length-replicate, tick_drive.proofs.ItemLaws.
 use Rattle.tick_drive.specs.{Consumers.Gives, Consumers.GivesFirst, Drive.Drives, Input.IsWhole}
 use Rattle.tick_drive.specs.{Input.max_ticks, declared.consumer.Stop.TheVariants.NoMemory}
 use Rattle.tick_drive.specs.declared.end.End.{End, TheVariants.Whole}
-use Rattle.tick_drive.specs.declared.end.End.TheVariants.{Refused, TooLong, ReadFault, Stopped}
 use Rattle.tick_drive.proofs.Stopping.{stops-for-memory}
 use Rattle.tick_drive.specs.Drive.{StopsForMemory}
 use Rattle.session_lists.specs.Parts.{part}
@@ -21,34 +20,36 @@ use Rattle.session_lists.specs.declared.tick_lists.Place.TheVariants as place
 use Rattle.session_lists.proofs.{Comparing.found-none, Parted.front-here}
 use Rattle.session_lists.proofs.Parted.{front-there, front-marks, marks-first, marks-second}
 use Rattle.session_lists.proofs.Parted.{part-empty, link-there, link-here, link-mark, link-ends}
-use Rattle.session_lists.specs.Comparison.{Compares, expected_reads}
+use Rattle.session_lists.specs.Comparison.{Compares}
+use Rattle.session_lists.specs.declared.lateness.Lateness.{Lateness}
 use Rattle.session_lists.specs.{FrameBox.kept_frames, FrameList.Holds, Lines.TakesOn, Lines.HearsOn}
 use Rattle.session_lists.specs.ReplayLists.{KeepsFrames}
 use Rattle.session_lists.specs.SessionListed.{MayListSession, ListsSession}
 use Rattle.session_lists.specs.SessionLists.{SetupsOfLists, HasSession, TakesParts, IsOpenList, parting}
-use Rattle.session_lists.specs.SessionLists.{session_taken, expected_of, link_of_lists, rest_after}
+use Rattle.session_lists.specs.SessionLists.{session_taken, passed_of, link_of_lists, rest_after}
 use Rattle.session_lists.specs.{SessionLists.rest_left, declared.comparison.Comparison.Comparison}
 use Rattle.session_lists.specs.declared.frame_box.{FrameBox.Ghosts as FrameBox, Numbered.Numbered}
 use Rattle.session_lists.specs.declared.frame_list.FrameList.{FrameList}
 use Rattle.session_lists.specs.declared.session_lists.{SessionLists.SessionLists, Timing.Timing}
 use Rattle.session_lists.proofs.Parting.{marks-mark, part-mark}
 
-module _ {V : Type 0} (v : Device V) (value : V) (comparison : Comparison) where
-  -- A comparison holds for whatever equals what is expected and what was heard.
-  compares-so : (e1 e2 : List FrameRead) (l1 l2 : List Tick) → e2 ≡ e1 → l2 ≡ l1
-      → Compares v value comparison e1 l1 → Compares v value comparison e2 l2
-  compares-so e1 e2 l1 l2 expected line compares =
-      subst (λ l. Compares v value comparison e2 l) (sym line)
-      (subst (λ e. Compares v value comparison e l1) (sym expected) compares)
+module _ {V : Type 0} (v : Device V) (value : V) (comparison : Comparison) (late : Lateness) where
+  -- A comparison holds for whatever equals what has passed and what was heard.
+  compares-so : (p1 p2 : List NumberedFrame) (l1 l2 : List Tick) → p2 ≡ p1 → l2 ≡ l1
+      → Compares v value comparison late p1 l1 → Compares v value comparison late p2 l2
+  compares-so p1 p2 l1 l2 passed line compares =
+      subst (λ l. Compares v value comparison late p2 l) (sym line)
+      (subst (λ p. Compares v value comparison late p l1) (sym passed) compares)
 
-  -- If nothing was heard, a comparison holds whatever is expected.
-  compares-nothing : (e1 e2 : List FrameRead) (l1 l2 : List Tick) → v.reads [] ≡ [] → l1 ≡ []
-      → l2 ≡ l1 → Compares v value comparison e1 l1 → Compares v value comparison e2 l2
-  compares-nothing e1 e2 l1 l2 nothing empty line compares =
-      subst (λ l. Compares v value comparison e2 l) (sym line)
+  -- If nothing was heard, a comparison holds whatever has passed.
+  compares-nothing : (p1 p2 : List NumberedFrame) (l1 l2 : List Tick) → v.reads [] ≡ []
+      → l1 ≡ [] → l2 ≡ l1 → Compares v value comparison late p1 l1
+      → Compares v value comparison late p2 l2
+  compares-nothing p1 p2 l1 l2 nothing empty line compares =
+      subst (λ l. Compares v value comparison late p2 l) (sym line)
       (record {
         hears = compares.hears;
-        found = found-none comparison e1 e2 (v.reads l1) (ap v.reads empty ∙ nothing)
+        found = found-none late comparison p1 p2 (v.reads l1) (ap v.reads empty ∙ nothing)
             compares.found;
       })
 
@@ -58,12 +59,12 @@ pub hears-on : {V : Type 0} (v : Device V) (t1 t2 : Timing) → t1 ≡ t2
     → (passed : FrameList Numbered) (frames : List NumberedFrame)
     → Holds passed (kept_frames frames) → (old new : V) (before after : Comparison)
     → (line more : List Tick) → HearsOn v t1.late passed old new before after more
-    → Compares v old before (expected_reads t2.late frames) line
-    → Compares v new after (expected_reads t2.late frames) (line ++ more)
+    → Compares v old before t2.late frames line
+    → Compares v new after t2.late frames (line ++ more)
 hears-on v t1 t2 same passed frames holds old new before after line more takes compares =
-    subst (λ (t : Timing). Compares v new after (expected_reads t.late frames) (line ++ more)) same
+    subst (λ (t : Timing). Compares v new after t.late frames (line ++ more)) same
     (takes.kept frames line
-    (λ held. subst (λ (t : Timing). Compares v old before (expected_reads t.late frames) line)
+    (λ held. subst (λ (t : Timing). Compares v old before t.late frames line)
     (sym same) compares) holds)
 
 module _ {S C V : Type 0} (s : FrameBox S) (c : FrameBox C) (v : Device V)
@@ -96,8 +97,8 @@ module _ {S C V : Type 0} (s : FrameBox S) (c : FrameBox C) (v : Device V)
                 (takes.kept setups.sent (part 0 items) parts.seals);
             passes = subst (KeepsFrames c old.checker old.passed setups.got) (sym link)
                 parts.passes;
-            reads = λ few. compares-so v old.device old.read _ _ _ _
-                (ap (expected_of s c v setups) link)
+            reads = λ few. compares-so v old.device old.read _ _ _ _ _
+                (ap (passed_of s c v setups) link)
                 (front-there items run k 2 (λ is. omega (arith, none, is)))
                 (parts.reads (omega (arith, few, same)));
             nothing = parts.nothing;
@@ -142,7 +143,7 @@ module _ {S C V : Type 0} (s : FrameBox S) (c : FrameBox C) (v : Device V)
             passes = subst (KeepsFrames c checker passed setups.got)
                 (sym (link-here setups.timing.link_rest items run k one))
                 (takes.kept setups.got (link_of_lists setups.timing.link_rest items) parts.passes);
-            reads = λ few. compares-nothing v old.device old.read _ _ _ _ parts.nothing
+            reads = λ few. compares-nothing v old.device old.read _ _ _ _ _ parts.nothing
                 (part-empty 2 items (omega (arith, one)))
                 (front-there items run k 2 (λ is. omega (arith, one, is)))
                 (parts.reads (omega (arith, few, same)));
@@ -190,8 +191,8 @@ module _ {S C V : Type 0} (s : FrameBox S) (c : FrameBox C) (v : Device V)
                 (sym (front-there items run k 0 (λ is. omega (arith, least, is)))) parts.seals;
             passes = subst (KeepsFrames c old.checker old.passed setups.got) (sym link)
                 parts.passes;
-            reads = λ few. compares-so v device read _ _ _ _
-                (ap (expected_of s c v setups) link)
+            reads = λ few. compares-so v device read _ _ _ _ _
+                (ap (passed_of s c v setups) link)
                 (front-here items run k 2 (omega (arith, least, few, same)))
                 (hears-on v old.timing setups.timing parts.timing_is old.passed
                 ((c.numbering setups.got).frames (link_of_lists setups.timing.link_rest items))
@@ -254,8 +255,8 @@ module _ {S C V : Type 0} (s : FrameBox S) (c : FrameBox C) (v : Device V) where
                   (sym (part-mark 0 items)) parts.seals;
               passes = subst (KeepsFrames c lists.checker lists.passed setups.got) (sym link)
                   parts.passes;
-              reads = λ few. compares-so v lists.device lists.read _ _ _ _
-                  (ap (expected_of s c v setups) link) (part-mark 2 items)
+              reads = λ few. compares-so v lists.device lists.read _ _ _ _ _
+                  (ap (passed_of s c v setups) link) (part-mark 2 items)
                   (parts.reads (omega (arith, few, more)));
               nothing = parts.nothing;
               place_is = is ∙ (ap place_behind parts.place_is ∙ ap place_after (sym more));
@@ -301,7 +302,7 @@ module _ {S C V : Type 0} (s : FrameBox S) (c : FrameBox C) (v : Device V) where
               passes = subst (KeepsFrames c checker passed setups.got)
                   (ap (λ l. link_of_lists rest items ++ l) silence ∙ sym (link-ends rest items one))
                   (takes.kept setups.got (link_of_lists rest items) parts.passes);
-              reads = λ few. compares-nothing v lists.device lists.read _ _ _ _ parts.nothing
+              reads = λ few. compares-nothing v lists.device lists.read _ _ _ _ _ parts.nothing
                   (part-empty 2 items (omega (arith, one))) (part-mark 2 items)
                   (parts.reads (omega (arith, one)));
               nothing = parts.nothing;
@@ -350,7 +351,7 @@ module _ {S C V : Type 0} (s : FrameBox S) (c : FrameBox C) (v : Device V)
         seals = subst (λ l. KeepsFrames s sealer sealed setups.sent (sent ++ l)) sent_rest
             (seals.kept setups.sent sent has.seals);
         passes = has.passes;
-        reads = subst (λ l. Compares v device read (expected_of s c v setups link)
+        reads = subst (λ l. Compares v device read setups.timing.late (passed_of s c v setups link)
             (received ++ l)) received_rest
             (hears-on v old.timing setups.timing has.timing_is old.passed
             ((c.numbering setups.got).frames link) has.passes.holds old.device device old.read read
@@ -409,7 +410,7 @@ module _ {S C V : Type 0} (s : FrameBox S) (c : FrameBox C) (v : Device V)
         reads = hears-on v old.timing setups.timing has.timing_is passed
             ((c.numbering setups.got).frames all) kept.holds old.device device old.read read []
             received hears
-            (compares-nothing v old.device old.read _ _ [] [] nothing refl refl has.reads);
+            (compares-nothing v old.device old.read _ _ _ [] [] nothing refl refl has.reads);
         timing_is = has.timing_is;
       }
 
@@ -479,8 +480,8 @@ module _ {S C V : Type 0} (s : FrameBox S) (c : FrameBox C) (v : Device V)
         (record {
           seals = parts.seals;
           passes = subst (KeepsFrames c new.checker new.passed setups.got) link parts.passes;
-          reads = compares-so v new.device new.read _ _ _ _
-              (ap (expected_of s c v setups) (sym link)) refl (parts.reads (omega (arith, marks)));
+          reads = compares-so v new.device new.read _ _ _ _ _
+              (ap (passed_of s c v setups) (sym link)) refl (parts.reads (omega (arith, marks)));
           timing_is = parts.timing_is;
         })
 

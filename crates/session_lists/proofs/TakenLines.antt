@@ -2,12 +2,13 @@
 use Rattle.device_model.specs.{Frames.FrameRead, declared.device.Device.Ghosts as Device}
 use Rattle.link_format.specs.{NumberedFrame.NumberedFrame, Setup.Setup}
 use Rattle.session_lists.proofs.HeardRuns.{silent_on}
-use Rattle.session_lists.specs.Comparison.{Compares, Found, expected_reads}
+use Rattle.session_lists.specs.Comparison.{Compares, Found}
 use Rattle.session_lists.specs.{FrameBox.kept_frames, FrameList.Holds, FrameList.list_len}
 use Rattle.session_lists.specs.{Lines.ListsGoOn, Lines.TakesOn, Lines.HearsOn, ReplayLists.KeepsFrames}
 use Rattle.session_lists.specs.{ReplayLists.StepsInto, declared.comparison.Comparison.Comparison}
 use Rattle.session_lists.specs.declared.frame_box.{FrameBox.Ghosts as FrameBox, Numbered.Numbered}
 use Rattle.{session_lists.specs.declared.frame_list.FrameList.FrameList, std.proofs.Common.◌≡◌}
+use Rattle.session_lists.specs.declared.lateness.Lateness.{Lateness}
 use Rattle.std.proofs.Common.{ℕ, ◌+◌, ◌≤◌, ◌<◌, List, [], ◌∷◌, ◌++◌, length, take, get_or}
 use Rattle.std.proofs.Common.{sym, subst, arith, append-nil, append_assoc, length-append}
 use Rattle.{std.proofs.lemmas.List.take_more, yasir_ticks.specs.Ticks.silent}
@@ -65,7 +66,7 @@ box-tick box old new before after t tick taken few ok = record {
   kept = λ setup line keep. (ok setup line keep).keeps;
 }
 
-pub hears-lent : {V : Type 0} (device : Device V) (late : ℕ) (passed : FrameList Numbered)
+pub hears-lent : {V : Type 0} (device : Device V) (late : Lateness) (passed : FrameList Numbered)
     (old new : V) (before after : Comparison) (more : List Tick) (frames : List FrameRead)
     → device.taken new ≡ device.taken old + length more
     → after.read ≤ before.read + length more
@@ -74,8 +75,7 @@ pub hears-lent : {V : Type 0} (device : Device V) (late : ℕ) (passed : FrameLi
     → device.reads (line ++ more) ≡ device.reads line ++ frames)
     → ((passed_ones : List NumberedFrame) (reads : List FrameRead)
     → Holds passed (kept_frames passed_ones)
-    → Found before (expected_reads late passed_ones) reads
-    → Found after (expected_reads late passed_ones) (reads ++ frames))
+    → Found late before passed_ones reads → Found late after passed_ones (reads ++ frames))
     → HearsOn device late passed old new before after more
 hears-lent device late passed old new before after more frames counts few stands answer found =
     record {
@@ -84,7 +84,7 @@ hears-lent device late passed old new before after more frames counts few stands
       kept = λ passed_ones line compares holds.
           let heard = compares holds in record {
             hears = stands line heard.hears;
-            found = subst (Found after (expected_reads late passed_ones))
+            found = subst (Found late after passed_ones)
                 (sym (answer line heard.hears))
                 (found passed_ones (device.reads line) holds heard.found);
           };
@@ -101,9 +101,10 @@ keeps-none box value list setup stands nothing holds = record {
 }
 
 pub compares-none : {V : Type 0} (device : Device V) (value : V) (comparison : Comparison)
-    (expected : List FrameRead) → device.stands value [] → device.reads [] ≡ []
-    → Found comparison expected [] → Compares device value comparison expected []
-compares-none device value comparison expected stands nothing found = record {
+    (late : Lateness) (passed_ones : List NumberedFrame) → device.stands value []
+    → device.reads [] ≡ [] → Found late comparison passed_ones []
+    → Compares device value comparison late passed_ones []
+compares-none device value comparison late passed_ones stands nothing found = record {
   hears = stands;
-  found = subst (Found comparison expected) (sym nothing) found;
+  found = subst (Found late comparison passed_ones) (sym nothing) found;
 }

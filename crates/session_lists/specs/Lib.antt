@@ -6,6 +6,7 @@ pub mod FrameList
 pub mod FrameBox
 pub mod Recordings
 pub mod ReplayLists
+pub mod Lateness
 pub mod Comparison
 pub mod Lines
 pub mod Places

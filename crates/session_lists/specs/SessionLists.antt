@@ -2,6 +2,7 @@
 use Rattle.std.specs.Prelude.{◌≡◌, ℕ, zero, suc, ◌+◌, ◌^◌, ◌<◌, ◌≤◌, List, [], ◌++◌, All, ⊤}
 use Rattle.yasir_ticks.specs.Ticks.{Item, marks_in, silent}
 use Rattle.yasir_ticks.specs.declared.tick.Tick.{Tick}
+use Rattle.link_format.specs.NumberedFrame.{NumberedFrame}
 use Rattle.link_format.specs.Setup.{Setup}
 use Rattle.device_model.specs.Frames.{FrameRead}
 use Rattle.device_model.specs.declared.device.Device.{Ghosts as Device}
@@ -11,7 +12,8 @@ use Rattle.session_lists.specs.Parts.{part}
 use Rattle.session_lists.specs.ListPlaces.{place_after}
 use Rattle.session_lists.specs.declared.tick_lists.Place.{Place}
 use Rattle.session_lists.specs.declared.tick_lists.Place.TheVariants as place
-use Rattle.session_lists.specs.Comparison.{Compares, expected_reads}
+use Rattle.session_lists.specs.Comparison.{Compares}
+use Rattle.session_lists.specs.Lateness.{expected_reads}
 use Rattle.session_lists.specs.FrameList.{list_len}
 use Rattle.session_lists.specs.ReplayLists.{KeepsFrames}
 use Rattle.session_lists.specs.declared.frame_box.FrameBox.{Ghosts as FrameBox}
@@ -48,10 +50,13 @@ rest_left rest place.Third = 0
 rest_left rest place.None = 0
 
 module _ {S C V : Type 0} (s : FrameBox S) (c : FrameBox C) (v : Device V) where
+  -- the frames that pass if this is the link
+  abbrev pub passed_of : SetupsOfLists → List Tick → List NumberedFrame
+  passed_of setups link = (c.numbering setups.got).frames link
+
   -- the frames that should be read if this is the link
   abbrev pub expected_of : SetupsOfLists → List Tick → List FrameRead
-  expected_of setups link =
-      expected_reads setups.timing.late ((c.numbering setups.got).frames link)
+  expected_of setups link = expected_reads setups.timing.late (passed_of setups link)
 
   -- Holds if the lists hold what is sealed of the line `device` and what passes of the line `link`,
   -- and what is read of the line `received` was compared with what has passed.
@@ -59,19 +64,19 @@ module _ {S C V : Type 0} (s : FrameBox S) (c : FrameBox C) (v : Device V) where
       (device link received : List Tick) : Type 0 where
     pub seals : KeepsFrames s lists.sealer lists.sealed setups.sent device
     pub passes : KeepsFrames c lists.checker lists.passed setups.got link
-    pub reads : Compares v lists.device lists.read (expected_of setups link) received
+    pub reads : Compares v lists.device lists.read setups.timing.late (passed_of setups link)
+        received
     pub timing_is : lists.timing ≡ setups.timing
 
-  -- Holds if the lists are those of some recordings, and each frame that passed, read as late as
-  -- the receiver is, starts at a tick below 2 ^ 64.
+  -- Holds if the lists are those of some recordings, and each frame that should be read starts at
+  -- a tick below 2 ^ 64.
   pub record AreReadInTime (lists : SessionLists S C V) : Type 0 where
     pub setups : SetupsOfLists
     pub device : List Tick
     pub link : List Tick
     pub received : List Tick
     pub has : HasSession lists setups device link received
-    pub in_time : All (λ f. setups.timing.late + f.start < 2 ^ 64)
-        ((c.numbering setups.got).frames link)
+    pub in_time : All (λ f. f.start < 2 ^ 64) (expected_of setups link)
 
   -- The boxes and the device have taken these items, each its own part. After a third mark the
   -- device hears ticks that belong to none of the three parts, and nothing is said of what it
@@ -82,8 +87,8 @@ module _ {S C V : Type 0} (s : FrameBox S) (c : FrameBox C) (v : Device V) where
     pub passes : KeepsFrames c lists.checker lists.passed setups.got
         (link_of_lists setups.timing.link_rest items)
     pub reads : marks_in items ≤ 2
-        → Compares v lists.device lists.read
-        (expected_of setups (link_of_lists setups.timing.link_rest items)) (part 2 items)
+        → Compares v lists.device lists.read setups.timing.late
+        (passed_of setups (link_of_lists setups.timing.link_rest items)) (part 2 items)
     pub nothing : v.reads [] ≡ []
     pub place_is : lists.place ≡ place_after (marks_in items)
     pub timing_is : lists.timing ≡ setups.timing

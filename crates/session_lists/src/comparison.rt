@@ -1,32 +1,28 @@
 //! Compares the frames that a device reads, one by one, with those that have passed. Of the frames
 //! read only the first one that wasn't expected is kept.
-ghost use Rattle.std.specs.Prelude.{◌≡◌, ℕ, ◌+◌, ◌<◌, ◌≤◌, ◌++◌, ◌∷◌, [], ◌==◌, ◌&&◌, List, bytes_eq};
-ghost use Rattle.std.specs.Prelude.{Some, drop, length, slice_get};
+ghost use Rattle.std.specs.Prelude.{◌≡◌, ℕ, ◌+◌, ◌<◌, ◌≤◌, ◌++◌, ◌∷◌, [], List};
+ghost use Rattle.std.specs.Prelude.{Some, drop, length, slice_get, take};
 ghost use Rattle.yasir_ticks.specs.declared.TheConstants.{MAX_TICKS};
 ghost use Rattle.device_model.specs.Frames.{FrameRead};
 ghost use Rattle.link_format.specs.NumberedFrame.{NumberedFrame};
-ghost use Rattle.session_lists.specs.Comparison.{Found, IsReadInTime, difference_of, expected_reads};
-ghost use Rattle.session_lists.specs.Comparison.{first_difference, is_next};
+ghost use Rattle.session_lists.specs.Comparison.{Found, IsComparedInTime, IsReadInTime};
+ghost use Rattle.session_lists.specs.Comparison.{difference_of};
+ghost use Rattle.session_lists.specs.Comparison.{first_difference, free_if, is_next, is_same_read};
+ghost use Rattle.session_lists.specs.Comparison.{met_of};
 ghost use Rattle.session_lists.specs.FrameBox.{kept_frames};
 ghost use Rattle.session_lists.specs.FrameList.{Holds, ListIsWhole, longest_frame};
+ghost use Rattle.session_lists.specs.Lateness.{expected_reads, free_after, gap_with};
 
 use crate::frame_box::Numbered;
 use crate::frame_list::FrameList;
+use crate::lateness::Lateness;
 use crate::read_frame::ReadFrame;
 
-/// The frames that have passed, and how many ticks later each one must be read.
+/// The frames that have passed, and when each one must be read.
 #[derive(Clone, Copy)]
 pub(crate) struct Passed<'a> {
-    pub(crate) late: u64,
+    pub(crate) late: Lateness,
     pub(crate) frames: &'a FrameList<Numbered>,
-}
-
-// Whether a frame that was read, with these bytes from tick `at` on, is the frame that passed and
-// started in tick `start`, exactly `late` ticks earlier.
-fn is_read(late: u64, start: u64, frame: &[u8], at: u64, bytes: &[u8]) -> bool
-    ensures { result ≡ (late + start == at && bytes_eq frame.now bytes.now) }
-{
-    late <= at && at - late == start && frame == bytes
 }
 
 /// A frame that a device has read: the tick of its first byte, and its bytes.
@@ -36,44 +32,71 @@ pub(crate) struct Read<'a> {
     pub(crate) bytes: &'a [u8],
 }
 
-// Whether this frame is the one that passed at `place`, read `late` ticks later. False if no frame
-// passed there.
-fn is_next(passed: Passed<'_>, place: u64, read: Read<'_>) -> bool
+// Returns from which tick on the next frame may start, if the frame that was read is the one with
+// these bytes that should start in tick `start`. `None` if it isn't, or starts too early or too
+// late.
+fn free_if_same(late: Lateness, start: u128, bytes: &[u8], read: Read<'_>) -> Option<u128>
+    ensures { result ≡ free_if (is_same_read late (record { start = start; frame = bytes.now })
+        (record { start = read.entry.start; frame = read.entry.bytes.now }))
+        (start + length bytes.now + gap_with late.spacing) }
+{
+    let at = u128::from(read.start);
+    if at < start {
+        return None;
+    }
+    let wait = at - start;
+    if wait < u128::from(late.least) || u128::from(late.most) < wait || bytes != read.bytes {
+        return None;
+    }
+    Some(start + bytes.len() as u128 + late.gap())
+}
+
+// Returns from which tick on the frame after this one may start, if this frame is the one that
+// should be read at `place`, which may not start before tick `free`. `None` if it isn't, or if no
+// frame passed there.
+fn free_if_next(passed: Passed<'_>, place: u64, free: u128, read: Read<'_>) -> Option<u128>
     requires { ListIsWhole passed.frames.now }
     ensures { (passed_ones : List NumberedFrame)
         → Holds passed.entry.frames.now (kept_frames passed_ones)
-        → result ≡ is_next (drop place (expected_reads passed.entry.late passed_ones))
-        (record { start = read.entry.start; frame = read.entry.bytes.now }) }
+        → free ≡ free_after passed.entry.late 0 (take place passed_ones)
+        → result ≡ free_if (is_next passed.entry.late
+        (drop place (expected_reads passed.entry.late passed_ones))
+        (record { start = read.entry.start; frame = read.entry.bytes.now }))
+        (free_after passed.entry.late 0 (take (place + 1) passed_ones)) }
 {
     let frames = passed.frames;
     let index = place as usize;
     if index >= frames.len() {
-        return false;
+        return None;
     }
-    let start = frames.head(index).start;
-    is_read(
-        passed.late,
-        start,
-        frames.bytes(index),
-        read.start,
-        read.bytes,
-    )
+    let bytes = frames.bytes(index);
+    let start = passed
+        .late
+        .start_of(free, frames.head(index).start, bytes.len());
+    free_if_same(passed.late, start, bytes, read)
 }
 
-// Returns the frame that passed at `place`, as it is read `late` ticks later. `None` if no frame
-// passed there.
-fn expected_at(late: u64, passed: &FrameList<Numbered>, place: u64) -> Option<ReadFrame>
+// Returns the frame that should be read at `place`, which may not start before tick `free`. `None`
+// if no frame passed there.
+fn expected_at(
+    late: Lateness,
+    passed: &FrameList<Numbered>,
+    place: u64,
+    free: u128,
+) -> Option<ReadFrame>
     requires whole { ListIsWhole passed.now }
-    requires in_time { IsReadInTime late passed.now }
+    requires in_time { IsReadInTime late free place passed.now }
     ensures { (passed_ones : List NumberedFrame) → Holds passed.now (kept_frames passed_ones)
+        → free ≡ free_after late 0 (take place passed_ones)
         → result ≡ slice_get (expected_reads late passed_ones) place }
 {
     let index = place as usize;
     if index >= passed.len() {
         return None;
     }
-    let start = late + passed.head(index).start;
-    Some(ReadFrame::new(start, passed.bytes(index)))
+    let bytes = passed.bytes(index);
+    let start = late.start_of(free, passed.head(index).start, bytes.len());
+    Some(ReadFrame::new(start as u64, bytes))
 }
 
 /// A frame that was read and isn't the one that passed at its place.
@@ -95,10 +118,12 @@ pub struct Difference {
 }
 
 /// How the frames that a device has read so far compare with those that have passed: how many were
-/// read, and the first one that isn't the frame that passed at its place.
+/// read, the first one that isn't the frame that passed at its place, and from which tick on the
+/// next frame may start.
 #[derive(Drop)]
 pub(crate) struct Comparison {
     read: u64,
+    free: u128,
     unexpected: Option<Unexpected>,
 }
 
@@ -106,10 +131,12 @@ impl Comparison {
     /// The comparison before any frame is read.
     pub(crate) fn new() -> Comparison
         ensures none { result.read ≡ 0 }
-        ensures found { (expected : List FrameRead) → Found result expected [] }
+        ensures found { (late : Lateness) (passed_ones : List NumberedFrame)
+            → Found late result passed_ones [] }
     {
         Comparison {
             read: 0,
+            free: 0,
             unexpected: None,
         }
     }
@@ -123,8 +150,8 @@ impl Comparison {
         ensures counted { self.new.read ≡ self.old.read + 1 }
         ensures found { (passed_ones : List NumberedFrame) (reads : List FrameRead)
             → Holds passed.entry.frames.now (kept_frames passed_ones)
-            → Found self.old (expected_reads passed.entry.late passed_ones) reads
-            → Found self.new (expected_reads passed.entry.late passed_ones)
+            → Found passed.entry.late self.old passed_ones reads
+            → Found passed.entry.late self.new passed_ones
             (reads ++ record { start = read.entry.start; frame = read.entry.bytes.now } ∷ []) }
     {
         let place = self.read;
@@ -133,30 +160,34 @@ impl Comparison {
             None => {}
             Some(_) => return,
         }
-        if is_next(passed, place, read) {
-            return;
+        match free_if_next(passed, place, self.free, read) {
+            Some(free) => self.free = free,
+            None => {
+                let frame = ReadFrame::new(read.start, read.bytes);
+                self.unexpected = Some(Unexpected { place, frame });
+            }
         }
-        let frame = ReadFrame::new(read.start, read.bytes);
-        self.unexpected = Some(Unexpected { place, frame });
     }
 
     /// How many frames were read.
     pub(crate) fn read(&self) -> u64
         ensures value { result ≡ self.now.read }
-        ensures count { (expected reads : List FrameRead) → Found self.now expected reads
-            → result ≡ length reads }
+        ensures count { (late : Lateness) (passed_ones : List NumberedFrame) (reads : List FrameRead)
+            → Found late self.now passed_ones reads → result ≡ length reads }
     {
         self.read
     }
 
     // Returns the first place, counted from 0, at which the frames that were read and those that
-    // passed differ: the two frames there aren't the same, or only one of the two lists has a frame
-    // there.
+    // should be differ: the frame there isn't the one that should be, or only one of the two lists
+    // has a frame there.
     fn place(&self, passed: &FrameList<Numbered>) -> Option<u64>
-        ensures { (late : ℕ) (passed_ones : List NumberedFrame) (reads : List FrameRead)
-            → Holds passed.now (kept_frames passed_ones)
-            → Found self.now (expected_reads late passed_ones) reads
-            → result ≡ first_difference (expected_reads late passed_ones) reads }
+        ensures place { (late : Lateness) (passed_ones : List NumberedFrame)
+            (reads : List FrameRead) → Holds passed.now (kept_frames passed_ones)
+            → Found late self.now passed_ones reads
+            → result ≡ first_difference late (expected_reads late passed_ones) reads }
+        ensures met { (place : ℕ) → result ≡ Some place
+            → place ≡ met_of self.now.unexpected self.now.read }
     {
         match &self.unexpected {
             None => {}
@@ -171,8 +202,10 @@ impl Comparison {
     // Returns the frame that was read at the place of the first difference. `None` if no frame was
     // read there.
     fn found(&self) -> Option<ReadFrame>
-        ensures { (expected reads : List FrameRead) (place : ℕ) → Found self.now expected reads
-            → first_difference expected reads ≡ Some place → result ≡ slice_get reads place }
+        ensures { (late : Lateness) (passed_ones : List NumberedFrame) (reads : List FrameRead)
+            (place : ℕ) → Found late self.now passed_ones reads
+            → first_difference late (expected_reads late passed_ones) reads ≡ Some place
+            → result ≡ slice_get reads place }
     {
         match &self.unexpected {
             None => None,
@@ -180,21 +213,25 @@ impl Comparison {
         }
     }
 
-    /// Returns the first difference between the frames that passed, each read `late` ticks later,
-    /// and the frames that were read. `None` if there is no difference.
-    pub(crate) fn difference(&self, late: u64, passed: &FrameList<Numbered>) -> Option<Difference>
+    /// Returns the first difference between the frames that should be read and those that were.
+    /// `None` if there is no difference.
+    pub(crate) fn difference(
+        &self,
+        late: Lateness,
+        passed: &FrameList<Numbered>,
+    ) -> Option<Difference>
         requires whole { ListIsWhole passed.now }
-        requires in_time { IsReadInTime late passed.now }
+        requires in_time { IsComparedInTime late self.now passed.now }
         ensures { (passed_ones : List NumberedFrame) (reads : List FrameRead)
             → Holds passed.now (kept_frames passed_ones)
-            → Found self.now (expected_reads late passed_ones) reads
-            → result ≡ difference_of (expected_reads late passed_ones) reads }
+            → Found late self.now passed_ones reads
+            → result ≡ difference_of late (expected_reads late passed_ones) reads }
     {
         match self.place(passed) {
             None => None,
             Some(place) => Some(Difference {
                 place,
-                expected: expected_at(late, passed, place),
+                expected: expected_at(late, passed, place, self.free),
                 found: self.found(),
             }),
         }

@@ -30,6 +30,7 @@ mod frame_box;
 mod frame_list;
 mod fronts;
 mod hearing;
+mod lateness;
 mod lines;
 mod listing;
 #[cfg(test)]
@@ -46,6 +47,7 @@ pub use comparison::Difference;
 pub use frame_box::{FrameBox, FrameStep, Numbered};
 pub use frame_ending::RunBytes;
 pub use frame_list::FrameList;
+pub use lateness::{Lateness, Spacing};
 pub use listing::list_ticks;
 pub use places::is_at_its_number;
 pub use read_frame::ReadFrame;

@@ -5,7 +5,7 @@ ghost use Rattle.yasir_ticks.specs.Ticks.{silent};
 ghost use Rattle.yasir_ticks.specs.declared.TheConstants.{MAX_TICKS};
 ghost use Rattle.device_model.specs.Frames.{FrameRead, frames_lent};
 ghost use Rattle.link_format.specs.NumberedFrame.{NumberedFrame};
-ghost use Rattle.session_lists.specs.Comparison.{Found, expected_reads};
+ghost use Rattle.session_lists.specs.Comparison.{Found};
 ghost use Rattle.session_lists.specs.FrameBox.{kept_frames};
 ghost use Rattle.session_lists.specs.FrameList.{Holds, ListIsWhole};
 ghost use Rattle.session_lists.specs.Lines.{TakesOn, HearsOn};
@@ -71,8 +71,8 @@ pub(crate) fn take_lent<V: Device>(
     ensures few { read.new.read ≤ read.old.read + 1 }
     ensures found { (passed_ones : List NumberedFrame) (reads : List FrameRead)
         → Holds passed.entry.frames.now (kept_frames passed_ones)
-        → Found read.old (expected_reads passed.entry.late passed_ones) reads
-        → Found read.new (expected_reads passed.entry.late passed_ones)
+        → Found passed.entry.late read.old passed_ones reads
+        → Found passed.entry.late read.new passed_ones
         (reads ++ frames_lent start (V.lent device.now)) }
 {
     match start {

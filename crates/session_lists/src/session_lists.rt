@@ -23,6 +23,7 @@ use crate::comparison::{Comparison, Difference, Passed};
 use crate::frame_box::{FrameBox, Numbered};
 use crate::frame_list::FrameList;
 use crate::fronts::{hear_front, take_front};
+use crate::lateness::Lateness;
 use crate::lines::{hear_line, hear_rest, take_line, take_silence};
 use device_model::Device;
 use link_format::Dir;
@@ -43,12 +44,11 @@ pub struct Floors {
     pub got: u64,
 }
 
-/// How late a receiver is, and how many silent ticks come after each of three recordings.
+/// When frames must be read, and how many silent ticks come after each of three recordings.
 #[derive(Clone, Copy, Debug, PartialEq, Eq)]
 pub struct Timing {
-    /// How many ticks after its start on the link a frame starts on the line of the device that
-    /// receives.
-    pub late: u64,
+    /// When a frame that has passed must be read on the line of the device that receives.
+    pub late: Lateness,
     /// How many silent ticks follow the line of the device that sends.
     pub sent_rest: u32,
     /// How many silent ticks follow the link.
@@ -186,16 +186,16 @@ impl<S: FrameBox, C: FrameBox, V: Device + Drop> SessionLists<S, C, V> {
         self.read.read()
     }
 
-    /// Returns the first difference between the frames that have passed, each as late as the
-    /// receiver is, and the frames that were read. `None` if there is no difference.
+    /// Returns the first difference between the frames that should be read, since they have passed,
+    /// and those that were. `None` if there is no difference.
     pub fn difference(&self) -> Option<Difference>
-        /// The lists are those of some recordings, and each frame that passed starts at a tick
-        /// below 2^64, as late as the receiver is.
+        /// The lists are those of some recordings, and each frame that should be read starts at a
+        /// tick below 2^64.
         requires { AreReadInTime S.FrameBox C.FrameBox V.Device self.now }
         ensures { (setups : SetupsOfLists) (device link received : List Tick)
             → HasSession S.FrameBox C.FrameBox V.Device self.now setups device link received
-            → result ≡ difference_of (expected_of S.FrameBox C.FrameBox V.Device setups link)
-            (V.reads received) }
+            → result ≡ difference_of setups.timing.late
+            (expected_of S.FrameBox C.FrameBox V.Device setups link) (V.reads received) }
     {
         self.read.difference(self.timing.late, &self.passed)
     }

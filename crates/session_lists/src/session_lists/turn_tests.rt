@@ -1,6 +1,7 @@
 //! How often the loop over three recordings calls the boxes and the device: each run is handed over
 //! whole. No contract says so.
 use super::{Floors, SessionLists, Timing};
+use crate::lateness::Lateness;
 use crate::replay_lists::turn_tests::{Calls, Deaf, Wire};
 use crate::sessions::list_session;
 use link_format::Dir;
@@ -24,7 +25,12 @@ const TEXT: &[u8] = b"+000102030405060708090a0b0c0d0e0f101112131415161718191a1b1
 const FLOORS: Floors = Floors { sent: 0, got: 0 };
 
 const TIMING: Timing = Timing {
-    late: 18,
+    late: Lateness {
+        late: 18,
+        spacing: None,
+        least: 0,
+        most: 0,
+    },
     sent_rest: 24,
     link_rest: 320,
     received_rest: 4,

@@ -12,16 +12,14 @@ judge_lists-requires-clause-taken g c =
     let few = part-short 1 listed.takes.told in
     let long = length-append (part 1 listed.takes.told) (silent link_rest) in
     let rest = length-replicate link_rest Silent in record {
-      late = c.args.late;
       device = _;
       link = _;
       received = _;
       taken = record {
-        has = lists.has (setups_of c.args.late c.args.session.now) c.lists_for-lists.ensures.has;
+        has = lists.has (setups_of c.args.session.now) c.lists_for-lists.ensures.has;
         able = lists.able;
         few = lists.few;
       };
-      soon = omega arith;
       short = omega (arith, few, long, rest, listed.takes.few);
     }
 
@@ -31,8 +29,8 @@ returns-clause-audits g c =
     let lists = listed.lists in record {
       items = listed.items;
       takes = listed.takes;
-      found = c.judge_lists.ensures c.args.late _ _ _ (record {
-        has = lists.has (setups_of c.args.late c.args.session.now) c.lists_for-lists.ensures.has;
+      found = c.judge_lists.ensures _ _ _ (record {
+        has = lists.has (setups_of c.args.session.now) c.lists_for-lists.ensures.has;
         able = lists.able;
         few = lists.few;
       });

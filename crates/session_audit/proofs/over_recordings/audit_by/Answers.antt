@@ -16,24 +16,22 @@ judge_lists-requires-clause-taken g c =
     let lists = c.in-Ok.ensures in
     let long = length-append c.args.lines.link.now (silent link_rest) in
     let rest = length-replicate link_rest Silent in record {
-      late = c.args.late;
       device = _;
       link = _;
       received = _;
       taken = record {
-        has = lists.has (setups_of c.args.late c.args.session.now) c.lists_for-lists.ensures.has;
+        has = lists.has (setups_of c.args.session.now) c.lists_for-lists.ensures.has;
         able = lists.able;
         few = lists.few;
       };
-      soon = omega arith;
       short = omega (arith, long, rest, c.requires.recordings.link_len);
     }
 
 pub returns-in-Ok : goal.returns-in-Ok
 returns-in-Ok g c =
     let lists = c.in-Ok.ensures in
-    c.judge_lists.ensures c.args.late _ _ _ (record {
-      has = lists.has (setups_of c.args.late c.args.session.now) c.lists_for-lists.ensures.has;
+    c.judge_lists.ensures _ _ _ (record {
+      has = lists.has (setups_of c.args.session.now) c.lists_for-lists.ensures.has;
       able = lists.able;
       few = lists.few;
     })

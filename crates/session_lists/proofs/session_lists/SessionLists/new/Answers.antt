@@ -13,8 +13,8 @@ returns-clause-has g c = record {
       (setup_of c.args.key.now c.args.dir c.args.floors.got) c.new-2.ensures.stands
       (c.new-2.ensures.nothing (setup_of c.args.key.now c.args.dir c.args.floors.got))
       c.new-4.ensures;
-  reads = compares-none g.V.Device c.fresh.result c.new-5.result _ c.fresh.ensures.stands
-      c.fresh.ensures.nothing (c.new-5.ensures.found _);
+  reads = compares-none g.V.Device c.fresh.result c.new-5.result _ _ c.fresh.ensures.stands
+      c.fresh.ensures.nothing (c.new-5.ensures.found _ _);
   timing_is = refl;
 }
 
@@ -53,8 +53,8 @@ returns-clause-may_list g c = record {
         (setup_of c.args.key.now c.args.dir c.args.floors.got) c.new-2.ensures.stands
         (c.new-2.ensures.nothing (setup_of c.args.key.now c.args.dir c.args.floors.got))
         c.new-4.ensures;
-    reads = compares-none g.V.Device c.fresh.result c.new-5.result _ c.fresh.ensures.stands
-        c.fresh.ensures.nothing (c.new-5.ensures.found _);
+    reads = compares-none g.V.Device c.fresh.result c.new-5.result _ _ c.fresh.ensures.stands
+        c.fresh.ensures.nothing (c.new-5.ensures.found _ _);
     timing_is = refl;
   };
 }
