@@ -4,8 +4,8 @@
     python3 scripts/audit.py [SESSIONS] [PROGRAM] [SEED]
 
 Each session is drawn from SEED (1): the line of a device with some frames, its link, and the line of an honest receiver, with
-either protocol, profile and direction, a key of its own, and floors up to the greatest number. The deeds in DEEDS take turns, and
-one of them is done to each session. The program must write the text that model.py makes of the same recordings and end with its
+either protocol, profile and direction, a key of its own, and floors up to the greatest number. The deeds in DEEDS and LIVE take
+turns, and one of them is done to each session. The program must write the text that model.py makes of the same recordings and end with its
 status, and the model's verdict must be one that the deed allows: a tag that an insider forged is always named, and an honest
 receiver never differs. A mistake of the person who audits (MISTAKES, the table of docs/AUDIT.md) must have one of its answers. Then
 the same is done with programs that are made wrong, each in one way (WRONG).
@@ -16,12 +16,14 @@ gate.
 import collections, functools, os, random, re, subprocess, sys, tempfile
 
 import built, model
-from model import LIMIT, PAUSE, Y18, Y24, Dnp3, Rtu, frame_or_none
+from model import CUT, EXACT, LIMIT, PAUSE, Y18, Y24, Dnp3, Late, Rtu, frame_or_none
 
-Session = collections.namedtuple("Session", "proto profile key direction floors device link received sent")
+# `late` is how late frames may be, or None if the words behind the floors, `more`, are no words of an audit.
+Session = collections.namedtuple("Session", "proto profile key direction floors device link received sent late more", defaults=(EXACT, ()))
 
-CLEAN, FORGED, DIFFERS, EMPTY = "clean", "forged", "differs", "empty"
-KINDS = (CLEAN, FORGED, DIFFERS, EMPTY)
+CLEAN, FORGED, DIFFERS, EMPTY, USAGE = "clean", "forged", "differs", "empty", "usage"
+VERDICTS = (CLEAN, FORGED, DIFFERS, EMPTY)
+KINDS = VERDICTS + (USAGE,)
 
 
 def some_frame(proto, chance):
@@ -302,8 +304,163 @@ DEEDS = {
     "first list: ends too soon": (end_early, FORGED),
     "key: that of another line": (other_key, DIFFERS),
     "silence alone": (silence, EMPTY),
-    "noise alone": (noise,) + KINDS,
-    "a list missing": (lose_a_list,) + KINDS,
+    "noise alone": (noise,) + VERDICTS,
+    "a list missing": (lose_a_list,) + VERDICTS,
+}
+
+
+# ---- the line of a device on a live line, where each frame comes later, and behind a spacer
+
+def may_be_late(session, least, most, spaced=False):
+    """The session, audited with these words."""
+    more = ["%d..%d" % (least, most)] + ["spaced"] * spaced
+    return session._replace(late=Late(least, most, spaced), more=more)
+
+
+def some_range(chance):
+    """LEAST and MOST as a live line has them, and narrow and wide ones."""
+    least = chance.choice([0, 0, 1, 128, 128, 5000])
+    return least, least + chance.choice([0, 1, 3, 60, 60, 400])
+
+
+def laid(frames):
+    """A line with these frames, each from its tick on, and silence after the last one."""
+    line = []
+    for start, frame in sorted(frames):
+        line += [None] * (start - len(line)) + frame
+    return line + [None] * 40
+
+
+def jittered(session, chance, least, most):
+    """The frames of the third line, each from `least` to `most` ticks later, but none into the one before it."""
+    free, frames = 0, []
+    for start, frame in model.reads(session.proto, session.received):
+        tick = max(start + chance.randrange(least, most + 1), free)
+        frames.append((tick, frame))
+        free = tick + len(frame) + CUT
+    return frames
+
+
+def later(session, chance, spaced=False):
+    """The session with a third line whose frames jitter, and the range of it."""
+    least, most = some_range(chance)
+    return session._replace(received=laid(jittered(session, chance, least, most))), least, most
+
+
+def live(session, chance):
+    session, least, most = later(session, chance)
+    return may_be_late(session, least, most)
+
+
+def live_with_room(session, chance):
+    session, least, most = later(session, chance)
+    return may_be_late(session, max(0, least - chance.randrange(1, 200)), most + chance.randrange(1, 3000))
+
+
+def live_as_a_whole(session, chance):
+    least, most = some_range(chance)
+    return may_be_late(session._replace(received=[None] * chance.randrange(least, most + 1) + session.received), least, most)
+
+
+def one_at(session, chance, ticks, least, most):
+    """All frames `least` ticks later, but the last one, which has room, this many ticks later than the receiver sends it."""
+    frames = [(start + least, frame) for start, frame in model.reads(session.proto, session.received)]
+    frames[-1] = (frames[-1][0] - least + ticks, frames[-1][1])
+    return may_be_late(session._replace(received=laid(frames)), least, most)
+
+
+def one_too_late(session, chance):
+    least, most = some_range(chance)
+    return one_at(session, chance, most + 1, least, most)
+
+
+def one_too_early(session, chance):
+    least, most = chance.choice([(1, 1), (1, 9), (128, 190)])
+    first = model.reads(session.proto, session.received)[0]
+    return one_at(session, chance, least - 1, least, most) if first else session
+
+
+def range_too_small(session, chance):
+    session = live(session, chance)
+    read = model.reads(session.proto, session.received)
+    passed = model.check(session.proto, session.key, session.direction, session.floors[1], session.link, session.profile)[3]
+    waits = [tick - start - session.profile.delay for (tick, _), (_, start, _) in zip(read, passed)]
+    if chance.randrange(2) and max(waits):
+        return may_be_late(session, 0, max(waits) - 1)
+    return may_be_late(session, min(waits) + 1, max(waits) + 1)
+
+
+def swapped_in_range(session, chance):
+    """Two other frames change places, in a range that is wide enough for both."""
+    frames = model.reads(session.proto, session.received)
+    while frames[0][1] == frames[1][1]:
+        session = some_session(chance)
+        frames = model.reads(session.proto, session.received)
+    (one, first), (other, second) = frames[:2]
+    moved = [(one, second), (one + len(second) + 30, first)] + [(tick + 2000, frame) for tick, frame in frames[2:]]
+    return may_be_late(session._replace(received=laid(moved)), 0, 5000)
+
+
+def spaced_line(session):
+    return session._replace(received=model.space(session.proto, session.received, session.profile)[0])
+
+
+def spaced(session, chance):
+    return may_be_late(spaced_line(session), 0, 0, True)._replace(more=chance.choice([["spaced"], ["0..0", "spaced"]]))
+
+
+def spaced_and_late(session, chance):
+    session, least, most = later(spaced_line(session), chance)
+    return may_be_late(session, least, most, True)
+
+
+def spaced_after(change):
+    """What an attacker does to the link, taken by an honest receiver with a spacer behind it."""
+    return lambda session, chance: spaced(change(session, chance), chance)
+
+
+def spaced_and_changed(session, chance):
+    session = spaced_line(session)
+    start, frame = chance.choice(model.reads(session.proto, session.received))
+    return may_be_late(session._replace(received=other_byte(session.received, start + chance.randrange(len(frame)), chance)), 0, 9, True)
+
+
+def without_a_spacer(session, chance):
+    return may_be_late(session, 0, chance.choice([0, 0, 9]), True)
+
+
+def not_said_to_be_spaced(session, chance):
+    return may_be_late(spaced_line(session), 0, 0)
+
+
+def no_words(*all_of_them):
+    """Words behind the floors that are no words of an audit."""
+    return lambda session, chance: session._replace(late=None, more=chance.choice(all_of_them))
+
+
+LIVE = {
+    "live: in the range": (live, CLEAN),
+    "live: a range with room": (live_with_room, CLEAN),
+    "live: all as late": (live_as_a_whole, CLEAN),
+    "live: `0..0` said": (lambda session, chance: may_be_late(session, 0, 0), CLEAN),
+    "live: a frame a tick too late": (one_too_late, DIFFERS),
+    "live: a frame a tick too early": (one_too_early, DIFFERS),
+    "live: a range too small": (range_too_small, DIFFERS),
+    "live: two frames change places": (swapped_in_range, DIFFERS),
+    "live: LEAST above MOST": (no_words(["5..4"], ["1000000..999999"], ["1..0", "spaced"]), USAGE),
+    "live: MOST above 1,000,000": (no_words(["0..1000001"], ["0..4294967296"], ["0..18446744073709551616", "spaced"]), USAGE),
+    "live: no canonical decimals": (no_words(["00..1"], ["0..01"], ["+0..1"], ["0.1"], ["0...1"], ["..1"], ["0.."], ["0-1"], [""]), USAGE),
+    "live: words in the wrong order": (no_words(["spaced", "0..5"], ["spaced", "0..0"], ["spaced", "spaced"], ["0..5", "0..5"]), USAGE),
+    "live: a word too many": (no_words(["0..5", "spaced", "spaced"], ["0..5", "spaced", ""], ["0..5", "Spaced"], ["spaced "]), USAGE),
+    "spacer: said": (spaced, CLEAN),
+    "spacer: said, and in the range": (spaced_and_late, CLEAN),
+    "spacer: a packet removed": (spaced_after(on_link(remove)), CLEAN),
+    "spacer: a frame changed": (spaced_after(on_link(change_a_frame)), CLEAN),
+    "spacer: a trailer changed": (spaced_after(on_link(change_a_trailer)), CLEAN),
+    "spacer: noise after it": (spaced_after(noise_between), CLEAN),
+    "spacer: a byte changed behind it": (spaced_and_changed, DIFFERS),
+    "spacer: not said": (not_said_to_be_spaced, DIFFERS),
+    "spacer: said, and there is none": (without_a_spacer, DIFFERS),
 }
 
 
@@ -430,7 +587,14 @@ MISTAKES = {
 
 def words_of(session, key_file):
     link = [model.word_of(session.proto, session.profile), ("ab", "ba")[session.direction]]
-    return ["audit"] + link + [key_file] + [str(floor) for floor in session.floors]
+    return ["audit"] + link + [key_file] + [str(floor) for floor in session.floors] + list(session.more)
+
+
+def wanted_of(session):
+    """What the model says of a session: the text and the status. Words that are none of an audit are refused."""
+    if session.late is None:
+        return "fault: usage\n", 2
+    return model.audit(session.proto, session.key, session.direction, session.floors, *lists_of(session), session.profile, session.late)
 
 
 def lists_of(session):
@@ -556,10 +720,15 @@ WRONG = {
     "the third list without its last tick": wrong(lists=lambda lists: lists[:2] + [lists[2][:-1]]),
     "the other direction": wrong(words=lambda words: words[:2] + [{"ab": "ba", "ba": "ab"}[words[2]]] + words[3:]),
     "a fault line beside the verdict": wrong(line=lambda line: line + "fault: memory\n"),
+    "any frame as late as it likes": wrong(words=lambda words: [re.sub(r"^(\d+)\.\.\d+$", r"\1..1000000", word) for word in words]),
+    "any frame as early as it likes": wrong(words=lambda words: [re.sub(r"^\d+\.\.(\d+)$", r"0..\1", word) for word in words]),
+    "the range not read": wrong(words=lambda words: [word for word in words if ".." not in word]),
+    "the spacer not read": wrong(words=lambda words: [word for word in words if word != "spaced"]),
+    "the spacer taken for granted": wrong(words=lambda words: [word for word in words if word != "spaced"] + ["spaced"]),
 }
 
 
-ALL = {**DEEDS, **MISTAKES}
+ALL = {**DEEDS, **LIVE, **MISTAKES}
 
 
 def is_allowed(answer, name, text, session):
@@ -576,7 +745,7 @@ def disagreements(program, sessions, seed, first_only=False):
         name = list(ALL)[turn % len(ALL)]
         deed, *allowed = ALL[name]
         session = deed(some_session(chance), chance)
-        text, status = model.audit(session.proto, session.key, session.direction, session.floors, *lists_of(session), session.profile)
+        text, status = wanted_of(session)
         kind, wanted, wrote = text.split()[1], answer_of(text, status), program.run(session)
         seen[name, kind] += 1
         if not any(is_allowed(answer, name, text, session) for answer in allowed):

@@ -371,14 +371,30 @@ def frame_or_none(word, frame):
     return "%s none\n" % word if frame is None else "%s at %d %s\n" % (word, frame[0], bytes(frame[1]).hex())
 
 
-def audit(proto, key, direction, floors, line, link, received, profile=Y18):
+# How late the frames that passed may be read: from `least` to `most` ticks later than the receiver sends them or, if the third line
+# is `spaced`, than a spacer behind the receiver does.
+Late = collections.namedtuple("Late", "least most spaced")
+EXACT = Late(0, 0, False)
+
+
+def is_in_time(expected, found, late):
+    """Whether a frame that was read is the expected one, in time. Each is its tick and its bytes, or None if there is no frame."""
+    if expected is None or found is None:
+        return False
+    return expected[1] == found[1] and late.least <= found[0] - expected[0] <= late.most
+
+
+def audit(proto, key, direction, floors, line, link, received, profile=Y18, late=EXACT):
     """The verdict on three recordings, as `audit` writes it, and the exit status. It compares what was sealed from the sender's floor
     on, what passed from the receiver's floor on, and what the device reads from the third recording."""
     sealed = seal(proto, key, direction, floors[0], line, profile)[3]
-    passed = check(proto, key, direction, floors[1], link, profile)[3]
+    sent, _, _, passed = check(proto, key, direction, floors[1], link, profile)
     read, forged = reads(proto, received), forged_of(sealed, passed)
-    late = [(start + profile.delay, frame) for _, start, frame in passed]
-    places = [place for place, (one, other) in enumerate(itertools.zip_longest(late, read)) if one != other]
+    expected = [(start + profile.delay, frame) for _, start, frame in passed]
+    if late.spaced:
+        expected = [(begin, frame) for _, begin, frame in space(proto, sent, profile)[2]]
+    pairs = itertools.zip_longest(expected, read)
+    places = [place for place, (one, other) in enumerate(pairs) if not is_in_time(one, other, late)]
     found, frames = "clean", ""
     if not (sealed or passed or read):
         found = "empty"
@@ -388,7 +404,7 @@ def audit(proto, key, direction, floors, line, link, received, profile=Y18):
         place = places[0]
         found = "differs %d" % place
         frames = "".join(frame_or_none(word, frames[place] if place < len(frames) else None)
-                         for word, frames in (("expected", late), ("found", read)))
+                         for word, frames in (("expected", expected), ("found", read)))
     text = "audit %s sealed %d passed %d read %d\n%s" % (found, len(sealed), len(passed), len(read), frames)
     return text, AUDIT_STATUS[found.split()[0]]
 

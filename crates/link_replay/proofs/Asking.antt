@@ -1,6 +1,9 @@
 -- Words ask for at most one command.
 use Rattle.{link_format.specs.declared.dir.Dir.Dir, link_replay.specs.Words.IsCommand}
-use Rattle.link_replay.specs.Words.{side_word}
+use Rattle.link_replay.proofs.LateWords.{tolerance_by, tolerance-by}
+use Rattle.link_replay.specs.Words.{side_word, AreLateWords, MayBeLate}
+use Rattle.link_replay.specs.declared.words.Audited.{Audited}
+use Rattle.session_audit.specs.declared.session.Tolerance.{Tolerance}
 use Rattle.link_replay.specs.{Words.Asks, Words.AreFloors, declared.words.Command.Command}
 use Rattle.link_replay.specs.declared.words.Command.TheVariants.{Init, Read, Vectors, Seal, Check}
 use Rattle.link_replay.specs.declared.words.Command.TheVariants.{Replay, Trial, Poll, Space, Audit}
@@ -26,9 +29,9 @@ side-by : (s : Side) → side_by (side_word s) ≡ s
 side-by side.Asks = refl
 side-by side.Answers = refl
 
--- the command that the first word names, by that word and the five words after it
-abbrev command_by : List ℕ → List ℕ → List ℕ → List ℕ → List ℕ → List ℕ → Command
-command_by verb first second third fourth fifth =
+-- the command that the first word names, by that word, the five words after it, and the others
+abbrev command_by : List ℕ → List ℕ → List ℕ → List ℕ → List ℕ → List ℕ → List (List ℕ) → Command
+command_by verb first second third fourth fifth more =
     cond (is_word (codes "init") verb)
     (Init (proto_by first) (profile_by first) (dir_by second))
     (cond (is_word (codes "read") verb) (Read (proto_by first))
@@ -43,8 +46,14 @@ command_by verb first second third fourth fifth =
     (Poll (proto_by first) (profile_by first) (digits_value 10 second) (digits_value 10 third))
     (cond (is_word (codes "space") verb) (Space (proto_by first) (profile_by first))
     (cond (is_word (codes "audit") verb)
-    (Audit (proto_by first) (profile_by first) (dir_by second) (digits_value 10 fourth)
-    (digits_value 10 fifth))
+    (Audit (record {
+      proto = proto_by first;
+      profile = profile_by first;
+      dir = dir_by second;
+      sent_floor = digits_value 10 fourth;
+      got_floor = digits_value 10 fifth;
+      tolerance = tolerance_by more;
+    }))
     (cond (is_word (codes "duplex") verb)
     (Duplex (proto_by first) (profile_by first) (dir_by second))
     (cond (is_word (codes "two_wire") verb)
@@ -69,9 +78,15 @@ word_at zero (word ∷ words) = word
 word_at (suc n) [] = []
 word_at (suc n) (word ∷ words) = word_at n words
 
+-- the words behind this many words
+abbrev words_behind : ℕ → List (List ℕ) → List (List ℕ)
+words_behind zero words = words
+words_behind (suc n) [] = []
+words_behind (suc n) (word ∷ words) = words_behind n words
+
 abbrev command_in : List (List ℕ) → Command
 command_in words = command_by (word_at 0 words) (word_at 1 words) (word_at 2 words)
-    (word_at 3 words) (word_at 4 words) (word_at 5 words)
+    (word_at 3 words) (word_at 4 words) (word_at 5 words) (words_behind 6 words)
 
 number-by : (n : ℕ) → n < 2 ^ 64 → digits_value 10 (decimal n) ≡ n
 number-by n within = (decimal_is_IsNumeral n within).1
@@ -128,13 +143,14 @@ command-in words (Poll proto profile seed count) h =
       number-by seed (omega (arith, h.0)),
       number-by count (omega (arith, h.2)),
     ) refl
-command-in words (Audit proto profile dir sent got) h =
-    ap command_in h.4 ∙ rw (
-      proto-by proto profile,
-      profile-by proto profile,
-      dir-by dir,
-      number-by sent (omega (arith, h.2)),
-      number-by got (omega (arith, h.3)),
+command-in words (Audit asked) h =
+    ap command_in h.5 ∙ rw (
+      proto-by asked.proto asked.profile,
+      profile-by asked.proto asked.profile,
+      dir-by asked.dir,
+      number-by asked.sent_floor (omega (arith, h.3.sent)),
+      number-by asked.got_floor (omega (arith, h.3.got)),
+      tolerance-by asked.tolerance h.1 h.3.late h.4,
     ) refl
 
 -- Two numbers that are spelled alike are equal.
@@ -145,7 +161,7 @@ spelled-one m n few_m few_n same =
 -- The floors of an audit that words ask for are 0 or numbers of frames.
 pub asked-floors : (words : List (List ℕ)) (asked : Option Command) → Asks words asked
     → AreFloors asked
-asked-floors words (Some (Audit proto profile dir sent got)) asks = (asks.2, asks.3)
+asked-floors words (Some (Audit asked)) asks = (asks.3.sent, asks.3.got)
 asked-floors words asked asks = tt
 
 -- The count of a trial, and of polls, is from 1 to 10000.
@@ -192,3 +208,37 @@ one-command words a b ha hb = sym (command-in words a ha) ∙ command-in words b
 
 pub asks-one : (words : List (List ℕ)) (a b : Option Command) → Asks words a → Asks words b → a ≡ b
 asks-one = asks_one IsCommand command_in command-in
+
+-- What words of an audit say behind its floors.
+pub record SaysLate (more : List (List ℕ)) : Type 0 where
+  pub tolerance : Tolerance
+  pub may : MayBeLate tolerance
+  pub words : AreLateWords tolerance more
+
+-- If the first word is `audit`, the words behind the first six say how late a frame may be.
+pub audit-late : (first second third fourth fifth sixth : List ℕ) (more : List (List ℕ))
+    (command : Command) → first ≡ codes "audit"
+    → IsCommand (first ∷ second ∷ third ∷ fourth ∷ fifth ∷ sixth ∷ more) command → SaysLate more
+audit-late first second third fourth fifth sixth more command verb asks =
+    let words : List (List ℕ) =
+    codes "audit" ∷ second ∷ third ∷ fourth ∷ fifth ∷ sixth ∷ more in
+    let so : IsCommand words command =
+    subst (λ v. IsCommand (v ∷ second ∷ third ∷ fourth ∷ fifth ∷ sixth ∷ more) command) verb
+    asks in
+    let asked : Audited = record {
+      proto = proto_by second;
+      profile = profile_by second;
+      dir = dir_by third;
+      sent_floor = digits_value 10 fifth;
+      got_floor = digits_value 10 sixth;
+      tolerance = tolerance_by more;
+    } in
+    let named : command ≡ Audit asked = sym (command-in words command so) in
+    let this = subst (λ c. IsCommand words c) named so in
+    let is = this.5 in
+    let same : this.1 ≡ more = cc in
+    record {
+      tolerance = asked.tolerance;
+      may = this.3.late;
+      words = subst (λ l. AreLateWords asked.tolerance l) same this.4;
+    }

@@ -3,11 +3,12 @@
 use Rattle.line_commands.specs.LinkBoxes.{seal_rest}
 use Rattle.link_box.specs.Checking.{passed}
 use Rattle.command_ends.specs.Links.{rules_of, link_profile_of, delay_of, device_reads}
+use Rattle.command_ends.specs.Links.{gap_of, silence_of}
 use Rattle.command_ends.specs.declared.link.Profile.{Profile, TheVariants.Y18, TheVariants.Y24}
 use Rattle.command_ends.specs.declared.link.Proto.{Proto}
 use Rattle.link_replay.specs.AuditCommand.{AuditsItems, PrintsFinding, finding_status, verdict_in}
-use Rattle.link_replay.specs.AuditCommand.{verdict_text}
-use Rattle.link_replay.specs.declared.commands.audit.Audited.{Audited}
+use Rattle.link_replay.specs.AuditCommand.{verdict_text, lateness_by, spacer_of}
+use Rattle.link_replay.specs.declared.words.Audited.{Audited}
 use Rattle.{session_audit.specs.Recorded.IsRecordedWith, session_lists.specs.Listed.link_rest}
 use Rattle.command_ends.specs.{Causes.InputCause, Causes.SinkCause, Endings.status_of}
 use Rattle.command_ends.specs.{Flushes.FlushesAtEnd, PrintsText.PrintsText}
@@ -18,13 +19,14 @@ use Rattle.command_ends.specs.declared.status.Unclean.{Unclean}
 use Rattle.link_box.specs.Sealing.{sealed}
 use Rattle.sequence_journal.specs.declared.numbers.TheConstants.{LIMIT}
 use Rattle.session_audit.specs.{AuditedInput.FindsNoVerdict, Sessions.LinkKind}
-use Rattle.session_audit.specs.Sessions.{sent_setup, got_setup, verdict_with}
+use Rattle.session_audit.specs.Sessions.{sent_setup, got_setup, verdict_with, spacing_of}
+use Rattle.session_lists.specs.declared.lateness.Spacing.{Spacing}
 use Rattle.session_audit.specs.Verdicts.{verdict_on}
 use Rattle.session_audit.specs.declared.{session.Session.Session, verdict.Verdict.Verdict}
 use Rattle.session_audit.specs.declared.verdict.Finding.{Finding}
 use Rattle.session_audit.specs.declared.verdict.Finding.TheVariants.{Empty, Forged, Differs, Clean}
 use Rattle.std.proofs.Common.{◌≡◌, ◌⊎◌, ◌∙◌, ℕ, List, ◌++◌, Option, inl, inr, refl}
-use Rattle.std.proofs.Common.{subst, sym}
+use Rattle.std.proofs.Common.{subst, sym, ap, Bool, true, false}
 use Rattle.std.proofs.Common.{arith}
 use Rattle.std.specs.Io.KnownBytes.{append_known}
 use Rattle.tick_drive.specs.declared.{consumer.Stop.Stop, end.End.End, end.End.TheVariants.Whole}
@@ -37,7 +39,8 @@ use Rattle.yasir_ticks.specs.declared.{TheConstants.T3_5_TICKS, tick.Tick.Tick}
 
 -- the verdict on recordings of a session of this protocol and this profile
 abbrev verdict_by : Proto → Profile → Session → List Tick → List Tick → List Tick → Verdict
-verdict_by proto profile session device link received = verdict_on (delay_of profile)
+verdict_by proto profile session device link received =
+    verdict_on (lateness_by proto profile session.tolerance)
     (sealed (link_profile_of profile (rules_of proto).label LIMIT (sent_setup session))
     (rules_of proto) session.sent_floor (device ++ silent (seal_rest profile)))
     (passed (link_profile_of profile (rules_of proto).label LIMIT (got_setup session))
@@ -50,14 +53,40 @@ kind_by proto profile = record {
   profile = link_profile_of profile (rules_of proto).label LIMIT;
   rules = rules_of proto;
   reads = device_reads proto;
+  silence = silence_of proto;
+  gap = gap_of profile;
 }
+
+spacer-is : (proto : Proto) (profile : Profile) (spaced : Bool)
+    → spacing_of (kind_by proto profile) spaced ≡ spacer_of proto profile spaced
+spacer-is proto profile true = refl
+spacer-is proto profile false = refl
+
+-- the verdict if the spacer is this one, or there is none
+abbrev verdict_behind : Proto → Profile → Session → List Tick → List Tick → List Tick
+    → Option Spacing → Verdict
+verdict_behind proto profile session device link received spacing = verdict_on (record {
+  late = delay_of profile;
+  spacing = spacing;
+  least = session.tolerance.least;
+  most = session.tolerance.most;
+})
+    (sealed (link_profile_of profile (rules_of proto).label LIMIT (sent_setup session))
+    (rules_of proto) session.sent_floor (device ++ silent (seal_rest profile)))
+    (passed (link_profile_of profile (rules_of proto).label LIMIT (got_setup session))
+    (rules_of proto) session.got_floor (link ++ silent link_rest))
+    (device_reads proto (received ++ silent T3_5_TICKS))
 
 pub verdict-is : (proto : Proto) (profile : Profile) (session : Session)
     (device link received : List Tick)
     → verdict_with (kind_by proto profile) session device link received
     ≡ verdict_by proto profile session device link received
-verdict-is proto Y18 session device link received = refl
-verdict-is proto Y24 session device link received = refl
+verdict-is proto Y18 session device link received =
+    ap (verdict_behind proto Y18 session device link received)
+    (spacer-is proto Y18 session.tolerance.spaced)
+verdict-is proto Y24 session device link received =
+    ap (verdict_behind proto Y24 session device link received)
+    (spacer-is proto Y24 session.tolerance.spaced)
 
 -- ---- the status of what was found
 

@@ -24,7 +24,7 @@ page_names_commands (Space proto profile) =
     record { before = take 520 HELP_PAGE; after = drop 531 HELP_PAGE; is = refl }
 page_names_commands (Replay proto profile dir) =
     record { before = take 599 HELP_PAGE; after = drop 619 HELP_PAGE; is = refl }
-page_names_commands (Audit proto profile dir sent got) =
+page_names_commands (Audit asked) =
     record { before = take 677 HELP_PAGE; after = drop 700 HELP_PAGE; is = refl }
 page_names_commands (Duplex proto profile dir) =
     record { before = take 751 HELP_PAGE; after = drop 771 HELP_PAGE; is = refl }

@@ -1,3 +1,4 @@
+pub mod LateWords
 pub mod Asking
 pub mod Counting
 pub mod Outcomes

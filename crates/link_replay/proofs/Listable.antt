@@ -7,7 +7,7 @@ use Rattle.link_replay.proofs.KeyedRuns.{EndsAs, keyed_done}
 use Rattle.link_replay.specs.AuditCommand.{AuditsItems, EndsWithVerdict, PrintsVerdict, verdict_in}
 use Rattle.link_replay.specs.AuditCommand.{verdict_text}
 use Rattle.link_replay.specs.ReplayCommand.{Replays, ReplaysWith, IsListable, replay_listing}
-use Rattle.link_replay.specs.declared.commands.audit.Audited.{Audited}
+use Rattle.link_replay.specs.declared.words.Audited.{Audited}
 use Rattle.command_ends.specs.declared.link.{Profile.Profile, Proto.Proto}
 use Rattle.session_audit.{proofs.Keying.keyed-so, specs.Keyed.ReadsKeyFirst}
 use Rattle.session_audit.specs.Keyed.{RunsWithKey}

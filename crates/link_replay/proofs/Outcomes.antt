@@ -5,7 +5,7 @@ use Rattle.line_commands.specs.LinkBoxes.{seal_boxed, seal_rest, check_boxed, ch
 use Rattle.line_commands.proofs.OverInput.{right_input_done}
 use Rattle.link_replay.proofs.Duplexed.{duplex_done, two_wire_done}
 use Rattle.link_replay.proofs.Listable.{listable_done, auditable_done}
-use Rattle.link_replay.{proofs.Spaced.whole-spaces, specs.AuditCommand.audited}
+use Rattle.link_replay.proofs.Spaced.{whole-spaces}
 use Rattle.command_ends.specs.Programs.{EndsLog, IsCalm}
 use Rattle.link_replay.specs.Commands.{Does, MayDo, EndsWell, HasCauses, HasRecordedCauses}
 use Rattle.link_replay.specs.Commands.{FlushesAfter}
@@ -189,8 +189,8 @@ module _ {K S O L D : Type 0} (k : Source K) (s : Source S) (o : Sink O) (l : Si
   asked_done (Some (Replay proto profile dir)) before after status may calm does causes =
       listable_done k s o l d before after calm proto profile dir may status does
       causes.streams.reads causes.streams.sinks
-  asked_done (Some (Audit proto profile dir sent got)) before after status may calm does causes =
-      auditable_done k s o l d (audited proto profile dir sent got) before after may calm status
+  asked_done (Some (Audit asked)) before after status may calm does causes =
+      auditable_done k s o l d asked before after may calm status
       does.prints causes.streams.reads causes.streams.sinks
   asked_done (Some (Duplex proto profile dir)) before after status may calm does causes =
       duplex_done k s o l d proto profile dir before after may calm status does

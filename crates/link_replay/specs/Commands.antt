@@ -25,7 +25,7 @@ use Rattle.link_replay.specs.ReplayCommand.{Replays, IsListable}
 use Rattle.link_replay.specs.TrialCommand.{Tries}
 use Rattle.link_replay.specs.PollCommand.{Polls}
 use Rattle.link_replay.specs.SpaceCommand.{Spaces}
-use Rattle.link_replay.specs.AuditCommand.{Audits, EndsWithVerdict, audited}
+use Rattle.link_replay.specs.AuditCommand.{Audits, EndsWithVerdict}
 use Rattle.link_replay.specs.DuplexCommand.{Duplexes}
 use Rattle.link_replay.specs.TwoWireCommand.{DrivesTwoWires}
 use Rattle.link_replay.specs.AboutCommands.{Helps, TellsVersion}
@@ -72,7 +72,7 @@ HasOwnCauses (Some (Check proto profile dir)) in_before in_now disk_before disk_
     DiskCause disk_before disk_now status
 HasOwnCauses (Some (Replay proto profile dir)) in_before in_now disk_before disk_now status =
     DiskCause disk_before disk_now status
-HasOwnCauses (Some (Audit proto profile dir sent got)) in_before in_now disk_before disk_now status =
+HasOwnCauses (Some (Audit asked)) in_before in_now disk_before disk_now status =
     DiskCause disk_before disk_now status
 HasOwnCauses (Some (Duplex proto profile dir)) in_before in_now disk_before disk_now status =
     DiskCause disk_before disk_now status
@@ -102,8 +102,8 @@ module _ {K S O L D : Type 0} (k : Source K) (s : Source S) (o : Sink O) (l : Si
       Polls o l proto profile seed count before after status
   Does (Some (Space proto profile)) before after status =
       Spaces s o l proto profile before after status
-  Does (Some (Audit proto profile dir sent got)) before after status =
-      Audits k s o l (audited proto profile dir sent got) before after status
+  Does (Some (Audit asked)) before after status =
+      Audits k s o l asked before after status
   Does (Some (Duplex proto profile dir)) before after status =
       Duplexes k s o l proto profile dir before after status
   Does (Some (TwoWire proto profile dir side waits)) before after status =
@@ -138,7 +138,7 @@ module _ {K S O L D : Type 0} (k : Source K) (s : Source S) (o : Sink O) (l : Si
   MayDo (Some (Space proto profile)) before = IsReadable (s.left before.input)
   MayDo (Some (Replay proto profile dir)) before = IsListable 1 (k.left before.key)
       (s.left before.input)
-  MayDo (Some (Audit proto profile dir sent got)) before = IsListable 2 (k.left before.key)
+  MayDo (Some (Audit asked)) before = IsListable 2 (k.left before.key)
       (s.left before.input)
   MayDo (Some (Duplex proto profile dir)) before = IsListable 1 (k.left before.key)
       (s.left before.input)
@@ -161,8 +161,8 @@ module _ {K S O L D : Type 0} (k : Source K) (s : Source S) (o : Sink O) (l : Si
   EndsWell (Some (Poll proto profile seed count)) before status =
       (status ≡ Done) ⊎ (status ≡ NoMemory)
   EndsWell (Some (Space proto profile)) before status = (status ≡ Done) ⊎ (status ≡ NoMemory)
-  EndsWell (Some (Audit proto profile dir sent got)) before status =
-      EndsWithVerdict (audited proto profile dir sent got) (k.left before.key)
+  EndsWell (Some (Audit asked)) before status =
+      EndsWithVerdict asked (k.left before.key)
       (s.left before.input) status ⊎ (status ≡ NoMemory)
   EndsWell (Some (Duplex proto profile dir)) before status = (status ≡ Done) ⊎ (status ≡ NoMemory)
   EndsWell (Some (TwoWire proto profile dir side waits)) before status =

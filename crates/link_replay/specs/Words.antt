@@ -1,6 +1,6 @@
 -- The words of the program's commands.
-use Rattle.std.specs.Prelude.{◌≡◌, ◌≢◌, ◌⊎◌, ℕ, ◌+◌, ◌^◌, ◌<◌, ◌≤◌, decimal, List, [], ◌∷◌, Option, Some}
-use Rattle.std.specs.Prelude.{None, codes, slice_get}
+use Rattle.std.specs.Prelude.{◌≡◌, ◌≢◌, ◌⊎◌, ℕ, ◌+◌, ◌^◌, ◌<◌, ◌≤◌, decimal, List, [], ◌∷◌, ◌++◌}
+use Rattle.std.specs.Prelude.{Bool, true, false, Option, Some, None, codes, slice_get}
 use Rattle.link_format.specs.declared.dir.Dir.{Dir}
 use Rattle.sequence_journal.specs.declared.numbers.TheConstants.{LIMIT}
 use Rattle.command_ends.specs.declared.link.Proto.{Proto}
@@ -8,14 +8,17 @@ use Rattle.command_ends.specs.declared.link.Profile.{Profile}
 use Rattle.command_ends.specs.Programs.{AsksFor}
 use Rattle.command_ends.specs.Words.{proto_word, link_word, dir_word}
 use Rattle.command_ends.specs.Links.{delay_of}
+use Rattle.session_audit.specs.declared.session.Tolerance.{Tolerance}
 use Rattle.two_wire.specs.declared.gate.Side.{Side}
 use Rattle.two_wire.specs.declared.gate.Side.TheVariants as side
 use Rattle.two_wire.specs.declared.gate.Waits.{Waits}
+use Rattle.link_replay.specs.declared.words.Audited.{Audited}
 use Rattle.link_replay.specs.declared.words.Command.{Command}
 use Rattle.link_replay.specs.declared.words.Command.TheVariants.{Init, Read, Vectors, Seal, Check}
 use Rattle.link_replay.specs.declared.words.Command.TheVariants.{Replay, Trial, Poll, Space}
 use Rattle.link_replay.specs.declared.words.Command.TheVariants.{Audit, Duplex, LiveSeal, LiveCheck}
 use Rattle.link_replay.specs.declared.words.Command.TheVariants.{TwoWire, Help, Version}
+use Rattle.link_replay.specs.declared.words.FirstSix.{FirstSix}
 
 -- Holds if the words ask for a box: its name, a protocol and a profile, a direction, and the paths
 -- of its key and its journal, which aren't empty.
@@ -36,9 +39,9 @@ abbrev pub side_word : Side → List ℕ
 side_word side.Asks = codes "asks"
 side_word side.Answers = codes "answers"
 
--- the most silent ticks that may be waited
-abbrev pub most_waited : ℕ
-most_waited = 1000000
+-- the most ticks that a two-wire box may wait, or that a frame may be late in an audit
+abbrev pub most_ticks : ℕ
+most_ticks = 1000000
 
 -- the least PAUSE of a two-wire box, which is the silence that ends a frame
 abbrev pub least_pause : ℕ
@@ -53,9 +56,41 @@ least_window profile side.Answers pause = delay_of profile + 5
 -- Holds if a two-wire box of this profile may wait so.
 pub record MayWait (profile : Profile) (side : Side) (waits : Waits) : Type 0 where
   pub pause_least : least_pause ≤ waits.pause
-  pub pause_most : waits.pause ≤ most_waited
+  pub pause_most : waits.pause ≤ most_ticks
   pub window_least : least_window profile side waits.pause ≤ waits.window
-  pub window_most : waits.window ≤ most_waited
+  pub window_most : waits.window ≤ most_ticks
+
+-- Holds if a frame may be late so: not fewer ticks at most than at least, and at most 1,000,000.
+pub record MayBeLate (tolerance : Tolerance) : Type 0 where
+  pub ordered : tolerance.least ≤ tolerance.most
+  pub few : tolerance.most ≤ most_ticks
+
+-- the word of how many ticks a frame may be late: the least and the most, with two dots between
+abbrev pub range_word : Tolerance → List ℕ
+range_word tolerance = decimal tolerance.least ++ codes ".." ++ decimal tolerance.most
+
+-- the word for a line behind a spacer, if it is one
+abbrev pub spaced_words : Bool → List (List ℕ)
+spaced_words true = codes "spaced" ∷ []
+spaced_words false = []
+
+-- Holds if these words, the last ones of an audit, say so: how many ticks a frame may be late, which
+-- needn't be said if that is none, and then whether the line is behind a spacer.
+abbrev pub AreLateWords : Tolerance → List (List ℕ) → Type 0
+AreLateWords tolerance words = (words ≡ range_word tolerance ∷ spaced_words tolerance.spaced)
+    ⊎ ((tolerance.least ≡ 0) × (tolerance.most ≡ 0) × (words ≡ spaced_words tolerance.spaced))
+
+-- Holds if an audit may be asked for so: each floor is 0 or the number of a frame, and a frame may be
+-- late so.
+pub record MayAudit (asked : Audited) : Type 0 where
+  pub sent : asked.sent_floor ≤ LIMIT
+  pub got : asked.got_floor ≤ LIMIT
+  pub late : MayBeLate asked.tolerance
+
+-- the first six words, and those that follow them
+abbrev pub six_with : FirstSix → List (List ℕ) → List (List ℕ)
+six_with words more = words.first.now ∷ words.second.now ∷ words.third.now ∷ words.fourth.now
+    ∷ words.fifth.now ∷ words.sixth.now ∷ more
 
 -- Holds if the words ask for the command.
 abbrev pub IsCommand : List (List ℕ) → Command → Type 0
@@ -72,10 +107,10 @@ IsCommand words (Trial proto profile seed count) = (seed < 2 ^ 32) × (1 ≤ cou
 IsCommand words (Poll proto profile seed count) = (seed < 2 ^ 32) × (1 ≤ count) × (count ≤ 10000)
     × (words ≡ codes "poll" ∷ link_word proto profile ∷ decimal seed ∷ decimal count ∷ [])
 IsCommand words (Space proto profile) = words ≡ codes "space" ∷ link_word proto profile ∷ []
-IsCommand words (Audit proto profile dir sent got) =
-    (key : List ℕ) × (key ≢ []) × (sent ≤ LIMIT) × (got ≤ LIMIT)
-    × (words ≡ codes "audit" ∷ link_word proto profile ∷ dir_word dir ∷ key ∷ decimal sent
-    ∷ decimal got ∷ [])
+IsCommand words (Audit asked) = (key : List ℕ) × (more : List (List ℕ)) × (key ≢ [])
+    × MayAudit asked × AreLateWords asked.tolerance more
+    × (words ≡ codes "audit" ∷ link_word asked.proto asked.profile ∷ dir_word asked.dir ∷ key
+    ∷ decimal asked.sent_floor ∷ decimal asked.got_floor ∷ more)
 IsCommand words Help = (words ≡ codes "help" ∷ []) ⊎ (words ≡ codes "--help" ∷ [])
     ⊎ (words ≡ codes "-h" ∷ [])
 IsCommand words Version = (words ≡ codes "version" ∷ []) ⊎ (words ≡ codes "--version" ∷ [])
@@ -117,7 +152,7 @@ TakesMemory command = ⊥
 
 -- Holds if the floors of an audit that is asked for are 0 or numbers of frames.
 abbrev pub AreFloors : Option Command → Type 0
-AreFloors (Some (Audit proto profile dir sent got)) = (sent ≤ LIMIT) × (got ≤ LIMIT)
+AreFloors (Some (Audit asked)) = (asked.sent_floor ≤ LIMIT) × (asked.got_floor ≤ LIMIT)
 AreFloors asked = Unit {0}
 
 -- the place, counted from 0, of the word that is the path of the key's file, if the command has one
@@ -131,7 +166,7 @@ key_place (Replay proto profile dir) = Some 3
 key_place (Trial proto profile seed count) = None
 key_place (Poll proto profile seed count) = None
 key_place (Space proto profile) = None
-key_place (Audit proto profile dir sent got) = Some 3
+key_place (Audit asked) = Some 3
 key_place (Duplex proto profile dir) = Some 3
 key_place (TwoWire proto profile dir side waits) = Some 6
 key_place (LiveSeal proto profile dir) = Some 4
@@ -151,7 +186,7 @@ journal_place (Replay proto profile dir) = None
 journal_place (Trial proto profile seed count) = None
 journal_place (Poll proto profile seed count) = None
 journal_place (Space proto profile) = None
-journal_place (Audit proto profile dir sent got) = None
+journal_place (Audit asked) = None
 journal_place (Duplex proto profile dir) = None
 journal_place (TwoWire proto profile dir side waits) = None
 journal_place (LiveSeal proto profile dir) = Some 5

@@ -13,7 +13,7 @@ ghost use Rattle.link_replay.specs.LiveCommands.{FlushesFault};
 ghost use Rattle.link_replay.specs.UsageLines.{fault_text};
 
 use crate::commands::about::{print_help, print_version};
-use crate::commands::audit::{Audited, audit};
+use crate::commands::audit::audit;
 use crate::commands::check::check;
 use crate::commands::duplex::duplex;
 use crate::commands::init::make_journal;
@@ -61,16 +61,7 @@ fn perform_in_memory<K: Source, S: Source, O: Sink, L: Sink, D: SlotDisk>(
             poll(alloc, drawn, ends)
         }
         Command::Space(proto, profile) => space(alloc, proto, profile, ends),
-        Command::Audit(proto, profile, dir, sent_floor, got_floor) => {
-            let asked = Audited {
-                proto,
-                profile,
-                dir,
-                sent_floor,
-                got_floor,
-            };
-            audit(alloc, asked, ends)
-        }
+        Command::Audit(asked) => audit(alloc, asked, ends),
         Command::Duplex(proto, profile, dir) => duplex(alloc, proto, profile, dir, ends),
         Command::TwoWire(proto, profile, dir, side, waits) => {
             let of = SharedLine {

@@ -306,9 +306,36 @@ const CLEAN: Row = Row {
     ..READ
 };
 
+/// The session of the first row, its third line five ticks later.
+const LATER: Row = Row {
+    words: "audit rtu ab key 0 0 2..5",
+    text: b"+01030000000ac5cd\n-40\n%\n\
+      +01030000000ac5cd\n-3\n+0001014c5b8d33c6d29a347013b0\n-47\n%\n\
+      -23\n+01030000000ac5cd\n-366\n",
+    ..CLEAN
+};
+
 /// Runs of `audit`: each verdict.
 pub const AUDITED: &[Row] = &[
     CLEAN,
+    LATER,
+    // A tick later than it may be.
+    Row {
+        words: "audit rtu ab key 0 0 2..4",
+        exit_status: 15,
+        out: b"audit differs 0 sealed 1 passed 1 read 1\n\
+          expected at 18 01030000000ac5cd\nfound at 23 01030000000ac5cd\n",
+        ..LATER
+    },
+    // Behind a spacer. The frame's last byte leaves the receiver in tick 25, four silent ticks end
+    // the frame, and so it is sent from tick 30 on.
+    Row {
+        words: "audit rtu ab key 0 0 0..0 spaced",
+        text: b"+01030000000ac5cd\n-40\n%\n\
+          +01030000000ac5cd\n-3\n+0001014c5b8d33c6d29a347013b0\n-47\n%\n\
+          -30\n+01030000000ac5cd\n-366\n",
+        ..CLEAN
+    },
     Row {
         text: b"%\n%\n",
         exit_status: 16,

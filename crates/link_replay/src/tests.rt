@@ -2,8 +2,10 @@
 //! list, a session of polls, and words. `scripts/rows.py` and `scripts/failing_calls.py` try the
 //! built program with more.
 use crate::rows::{AUDITED, DOUBLE, KEPT, KEY, NEW, REPLAYED, Row, SHARED, SINGLE, SPACED};
+use crate::words::Audited;
 use crate::{Command, Dir, Profile, Proto, journal_word, key_word, makes_journal, read_words, run};
 use line_commands::Streams;
+use session_audit::Tolerance;
 use std::alloc::{AllocError, Global};
 use std::process::Abort;
 use std::test::Fail;
@@ -161,6 +163,19 @@ const WAITS: Waits = Waits {
     pause: 30,
 };
 
+const HIGHEST: Audited = Audited {
+    proto: Proto::Dnp3,
+    profile: Profile::Y24,
+    dir: Dir::Ba,
+    sent_floor: 0,
+    got_floor: 281_474_976_710_655,
+    tolerance: Tolerance {
+        least: 128,
+        most: 1_000_000,
+        spaced: true,
+    },
+};
+
 const ASKED: &[Asked] = &[
     ("-h", Some(Command::Help), None, None, false),
     (
@@ -192,8 +207,8 @@ const ASKED: &[Asked] = &[
         false,
     ),
     (
-        "audit dnp24 ba k 0 281474976710655",
-        Some(Command::Audit(Proto::Dnp3, Profile::Y24, Dir::Ba, 0, 281_474_976_710_655)),
+        "audit dnp24 ba k 0 281474976710655 128..1000000 spaced",
+        Some(Command::Audit(HIGHEST)),
         Some(3),
         None,
         false,
@@ -212,9 +227,13 @@ const ASKED: &[Asked] = &[
         None,
         false,
     ),
-    // 2 ^ 32, 2 ^ 48, one tick less than this box has to wait, an empty path, and a leading zero
+    // 2 ^ 32, 2 ^ 48, ranges that are empty, too wide and out of place, one tick less than this box has
+    // to wait, an empty path, and a leading zero
     ("trial rtu 4294967296 1", None, None, None, false),
     ("audit rtu ab k 281474976710656 0", None, None, None, false),
+    ("audit rtu ab k 0 0 5..4", None, None, None, false),
+    ("audit rtu ab k 0 0 0..1000001", None, None, None, false),
+    ("audit rtu ab k 0 0 spaced 0..0", None, None, None, false),
     ("two_wire rtu24 ba answers 28 4 k", None, None, None, false),
     ("live seal rtu ab  j", None, None, None, false),
     ("trial rtu 07 1", None, None, None, false),

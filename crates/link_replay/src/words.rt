@@ -1,16 +1,19 @@
 //! The words of the program: which command they ask for, and which of them are paths.
-ghost use Rattle.std.specs.Prelude.{◌≡◌, ◌⊎◌, ◌↔◌, ℕ, ◌^◌, ◌<◌, ◌≤◌, [], ◌∷◌, None, IfOk};
-ghost use Rattle.std.specs.Prelude.{OnErr, IsTrue, map, codes, decimal};
+ghost use Rattle.std.specs.Prelude.{◌≡◌, ◌⊎◌, ◌↔◌, ℕ, ◌^◌, ◌<◌, ◌≤◌, List, [], ◌∷◌};
+ghost use Rattle.std.specs.Prelude.{None, IfOk, OnErr, IsTrue, map, codes, decimal};
 ghost use Rattle.std.specs.String.{string_bytes};
 ghost use Rattle.sequence_journal.specs.declared.numbers.TheConstants.{LIMIT};
 ghost use Rattle.link_replay.specs.declared.words.Command.{Command};
 ghost use Rattle.link_replay.specs.Words.{IsCommand, Asks};
 ghost use Rattle.link_replay.specs.Words.{key_place, journal_place, AskForJournal};
-ghost use Rattle.link_replay.specs.Words.{side_word, most_waited, least_window, MayWait};
+ghost use Rattle.link_replay.specs.Words.{side_word, most_ticks, least_window, MayWait};
+ghost use Rattle.link_replay.specs.Words.{AreLateWords, MayBeLate, range_word, six_with};
+ghost use Rattle.session_audit.specs.declared.session.Tolerance.{Tolerance};
 
 use command_ends::{Profile, Proto, Usage, read_dir, read_link, read_proto};
 use link_format::Dir;
 use sequence_journal::LIMIT;
+use session_audit::Tolerance;
 use two_wire::{Side, Waits};
 
 /// The greatest count of frames in a trial, and of requests in a session of polls.
@@ -19,11 +22,29 @@ const MOST_FRAMES: u32 = 10_000;
 /// The greatest number that fits into 32 bits.
 const MOST_OF_32_BITS: u64 = 4_294_967_295;
 
-/// The most silent ticks that a two-wire box may wait.
-const MOST_WAITED: u32 = 1_000_000;
+/// The most ticks that a two-wire box may wait, or that a frame may be late in an audit.
+const MOST_TICKS: u32 = 1_000_000;
 
 /// The least PAUSE of a two-wire box: the silence that ends a frame.
 const LEAST_PAUSE: u32 = 4;
+
+/// The session that is audited: its link, the floors of its transmitter and receiver, and when the
+/// frames that have passed may be read.
+#[derive(Clone, Copy, Debug, PartialEq, Eq)]
+pub struct Audited {
+    /// The protocol of the link.
+    pub proto: Proto,
+    /// The profile of the link.
+    pub profile: Profile,
+    /// The direction of the link.
+    pub dir: Dir,
+    /// The transmitter's floor before the session: 0, or the number of a frame.
+    pub sent_floor: u64,
+    /// The receiver's floor before the session: 0, or the number of a frame.
+    pub got_floor: u64,
+    /// When the frames that have passed may be read.
+    pub tolerance: Tolerance,
+}
 
 /// What the program is asked to do.
 #[derive(Clone, Copy, Debug, PartialEq, Eq)]
@@ -48,9 +69,8 @@ pub enum Command {
     Poll(Proto, Profile, u32, u32),
     /// Sends on the frames of a line with as much silence between them as the profile asks for.
     Space(Proto, Profile),
-    /// Judges a session by three recordings. The numbers are the floors of its transmitter and its
-    /// receiver at the start.
-    Audit(Proto, Profile, Dir, u64, u64),
+    /// Judges a session by three recordings.
+    Audit(Audited),
     /// Seals a device's line in one direction, and checks a link in the other.
     Duplex(Proto, Profile, Dir),
     /// Runs a box between the wires to a device and those of a link, on each of which all take turns:
@@ -64,6 +84,17 @@ pub enum Command {
     Help,
     /// Prints the program's name and version.
     Version,
+}
+
+/// The first six words, of a command that has so many.
+#[derive(Clone, Copy)]
+struct FirstSix<'a> {
+    first: &'a str,
+    second: &'a str,
+    third: &'a str,
+    fourth: &'a str,
+    fifth: &'a str,
+    sixth: &'a str,
 }
 
 // Reads a command of one word.
@@ -260,56 +291,94 @@ fn read_five(
     }
 }
 
-// Reads the words of `audit`: a link, the path of a key, which must not be empty, and two floors.
-fn read_audit(
-    first: &str,
-    second: &str,
-    third: &str,
-    key: &str,
-    sent: &str,
-    got: &str,
-) -> Result<Command, Usage>
-    requires { first.now ≡ codes "audit" }
-    ensures ok { IfOk result (λ command. IsCommand
-        (first.now ∷ second.now ∷ third.now ∷ key.now ∷ sent.now ∷ got.now ∷ []) command) }
-    ensures usage { OnErr result ((command : Command) → IsCommand
-        (first.now ∷ second.now ∷ third.now ∷ key.now ∷ sent.now ∷ got.now ∷ []) command → ⊥) }
+// Reads the first six words of `audit`: a link, the path of a key, which must not be empty, and two
+// floors. The tolerance is what the words behind them ask for.
+fn read_audit(words: FirstSix<'_>, tolerance: Tolerance) -> Result<Command, Usage>
+    requires audit { words.first.now ≡ codes "audit" }
+    requires may { MayBeLate tolerance }
+    ensures ok { IfOk result (λ command. (more : List (List ℕ)) → AreLateWords tolerance more
+        → IsCommand (six_with words.entry more) command) }
+    ensures usage { OnErr result ((command : Command) (more : List (List ℕ))
+        → IsCommand (six_with words.entry more) command → ⊥) }
 {
-    if key.is_empty() {
+    if words.fourth.is_empty() {
         return Err(Usage);
     }
-    let (proto, profile) = read_link(second)?;
-    let dir = read_dir(third)?;
-    let sent = read_floor(sent)?;
-    let got = read_floor(got)?;
-    Ok(Command::Audit(proto, profile, dir, sent, got))
+    let (proto, profile) = read_link(words.second)?;
+    let dir = read_dir(words.third)?;
+    let sent_floor = read_floor(words.fifth)?;
+    let got_floor = read_floor(words.sixth)?;
+    Ok(Command::Audit(Audited {
+        proto,
+        profile,
+        dir,
+        sent_floor,
+        got_floor,
+        tolerance,
+    }))
+}
+
+// Returns how many ticks a frame may be late, by a word that spells the least and the most of them
+// with two dots between.
+fn read_range(word: &str, spaced: bool) -> Result<Tolerance, Usage>
+    ensures ok { IfOk result (λ tolerance. word.now ≡ range_word tolerance) }
+    ensures spaced { IfOk result (λ tolerance. tolerance.spaced ≡ spaced) }
+    ensures may { IfOk result (λ tolerance. MayBeLate tolerance) }
+    ensures usage { OnErr result ((tolerance : Tolerance) → MayBeLate tolerance
+        → word.now ≡ range_word tolerance → ⊥) }
+{
+    let Some((least, rest)) = word.split_once('.') else {
+        return Err(Usage);
+    };
+    let Some(most) = rest.strip_prefix('.') else {
+        return Err(Usage);
+    };
+    let least = read_ticks(least)?;
+    let most = read_ticks(most)?;
+    if least > most {
+        return Err(Usage);
+    }
+    Ok(Tolerance {
+        least,
+        most,
+        spaced,
+    })
+}
+
+// Returns the tolerance that a single word asks for.
+fn read_late(word: &str) -> Result<Tolerance, Usage>
+    ensures ok { IfOk result (λ tolerance. AreLateWords tolerance (word.now ∷ [])) }
+    ensures may { IfOk result (λ tolerance. MayBeLate tolerance) }
+    ensures usage { OnErr result ((tolerance : Tolerance) → MayBeLate tolerance
+        → AreLateWords tolerance (word.now ∷ []) → ⊥) }
+{
+    if word == "spaced" {
+        return Ok(Tolerance {
+            least: 0,
+            most: 0,
+            spaced: true,
+        });
+    }
+    read_range(word, false)
 }
 
 // Reads the words of `live`: a box, a link, and the paths of a key and a journal, which must not be
 // empty.
-fn read_live(
-    first: &str,
-    second: &str,
-    third: &str,
-    fourth: &str,
-    key: &str,
-    path: &str,
-) -> Result<Command, Usage>
-    requires { first.now ≡ codes "live" }
-    ensures ok { IfOk result (λ command. IsCommand
-        (first.now ∷ second.now ∷ third.now ∷ fourth.now ∷ key.now ∷ path.now ∷ []) command) }
-    ensures usage { OnErr result ((command : Command) → IsCommand
-        (first.now ∷ second.now ∷ third.now ∷ fourth.now ∷ key.now ∷ path.now ∷ []) command → ⊥) }
+fn read_live(words: FirstSix<'_>) -> Result<Command, Usage>
+    requires { words.first.now ≡ codes "live" }
+    ensures ok { IfOk result (λ command. IsCommand (six_with words.entry []) command) }
+    ensures usage { OnErr result ((command : Command) → IsCommand (six_with words.entry []) command
+        → ⊥) }
 {
-    if key.is_empty() {
+    if words.fifth.is_empty() {
         return Err(Usage);
     }
-    if path.is_empty() {
+    if words.sixth.is_empty() {
         return Err(Usage);
     }
-    let (proto, profile) = read_link(third)?;
-    let dir = read_dir(fourth)?;
-    match second {
+    let (proto, profile) = read_link(words.third)?;
+    let dir = read_dir(words.fourth)?;
+    match words.second {
         "seal" => Ok(Command::LiveSeal(proto, profile, dir)),
         "check" => Ok(Command::LiveCheck(proto, profile, dir)),
         _ => Err(Usage),
@@ -328,14 +397,14 @@ fn read_side(word: &str) -> Result<Side, Usage>
     }
 }
 
-// Returns the ticks to wait that a word spells in decimal digits without a leading zero.
-fn read_waited(word: &str) -> Result<u32, Usage>
+// Returns the ticks, at most 1,000,000, that a word spells in decimal digits without a leading zero.
+fn read_ticks(word: &str) -> Result<u32, Usage>
     ensures ok { IfOk result (λ n. word.now ≡ decimal n) }
-    ensures within { IfOk result (λ n. n ≤ most_waited) }
-    ensures usage { OnErr result ((n : ℕ) → n ≤ most_waited → word.now ≡ decimal n → ⊥) }
+    ensures within { IfOk result (λ n. n ≤ most_ticks) }
+    ensures usage { OnErr result ((n : ℕ) → n ≤ most_ticks → word.now ≡ decimal n → ⊥) }
 {
     let n = read_number(word)?;
-    if n > MOST_WAITED {
+    if n > MOST_TICKS {
         return Err(Usage);
     }
     Ok(n)
@@ -359,8 +428,8 @@ fn read_waits(profile: Profile, side: Side, window: &str, pause: &str) -> Result
     ensures usage { OnErr result ((waits : Waits) → MayWait profile side waits
         → window.now ≡ decimal waits.window → pause.now ≡ decimal waits.pause → ⊥) }
 {
-    let window = read_waited(window)?;
-    let pause = read_waited(pause)?;
+    let window = read_ticks(window)?;
+    let pause = read_ticks(pause)?;
     if pause < LEAST_PAUSE {
         return Err(Usage);
     }
@@ -372,70 +441,67 @@ fn read_waits(profile: Profile, side: Side, window: &str, pause: &str) -> Result
 
 // Reads the words of `two_wire`: a link, a side, how long is waited, and the path of a key, which
 // must not be empty.
-fn read_two_wire(
-    link: &str,
-    dir: &str,
-    side: &str,
-    window: &str,
-    pause: &str,
-    key: &str,
-) -> Result<Command, Usage>
-    ensures ok { IfOk result (λ command. IsCommand (codes "two_wire" ∷ link.now ∷ dir.now
-        ∷ side.now ∷ window.now ∷ pause.now ∷ key.now ∷ []) command) }
-    ensures usage { OnErr result ((command : Command) → IsCommand (codes "two_wire" ∷ link.now
-        ∷ dir.now ∷ side.now ∷ window.now ∷ pause.now ∷ key.now ∷ []) command → ⊥) }
+fn read_two_wire(words: FirstSix<'_>, key: &str) -> Result<Command, Usage>
+    requires { words.first.now ≡ codes "two_wire" }
+    ensures ok { IfOk result (λ command. IsCommand (six_with words.entry (key.now ∷ [])) command) }
+    ensures usage { OnErr result ((command : Command)
+        → IsCommand (six_with words.entry (key.now ∷ [])) command → ⊥) }
 {
     if key.is_empty() {
         return Err(Usage);
     }
-    let (proto, profile) = read_link(link)?;
-    let dir = read_dir(dir)?;
-    let side = read_side(side)?;
-    let waits = read_waits(profile, side, window, pause)?;
+    let (proto, profile) = read_link(words.second)?;
+    let dir = read_dir(words.third)?;
+    let side = read_side(words.fourth)?;
+    let waits = read_waits(profile, side, words.fifth, words.sixth)?;
     Ok(Command::TwoWire(proto, profile, dir, side, waits))
 }
 
-// Reads a command of seven words.
-fn read_seven(
-    first: &str,
-    second: &str,
-    third: &str,
-    fourth: &str,
-    fifth: &str,
-    sixth: &str,
-    seventh: &str,
-) -> Result<Command, Usage>
-    ensures ok { IfOk result (λ command. IsCommand (first.now ∷ second.now ∷ third.now ∷ fourth.now
-        ∷ fifth.now ∷ sixth.now ∷ seventh.now ∷ []) command) }
-    ensures usage { OnErr result ((command : Command) → IsCommand (first.now ∷ second.now
-        ∷ third.now ∷ fourth.now ∷ fifth.now ∷ sixth.now ∷ seventh.now ∷ []) command → ⊥) }
+// Reads a command of six words.
+fn read_six(words: FirstSix<'_>) -> Result<Command, Usage>
+    ensures ok { IfOk result (λ command. IsCommand (six_with words.entry []) command) }
+    ensures usage { OnErr result ((command : Command) → IsCommand (six_with words.entry []) command
+        → ⊥) }
 {
-    match first {
-        "two_wire" => read_two_wire(second, third, fourth, fifth, sixth, seventh),
+    match words.first {
+        "audit" => read_audit(words, Tolerance::exact()),
+        "live" => read_live(words),
         _ => Err(Usage),
     }
 }
 
-// Reads a command of six words.
-fn read_six(
-    first: &str,
-    second: &str,
-    third: &str,
-    fourth: &str,
-    fifth: &str,
-    sixth: &str,
-) -> Result<Command, Usage>
-    ensures ok { IfOk result (λ command. IsCommand
-        (first.now ∷ second.now ∷ third.now ∷ fourth.now ∷ fifth.now ∷ sixth.now ∷ []) command) }
-    ensures usage { OnErr result ((command : Command) → IsCommand
-        (first.now ∷ second.now ∷ third.now ∷ fourth.now ∷ fifth.now ∷ sixth.now ∷ []) command
-        → ⊥) }
+// Reads a command of seven words.
+fn read_seven(words: FirstSix<'_>, seventh: &str) -> Result<Command, Usage>
+    ensures ok { IfOk result (λ command.
+        IsCommand (six_with words.entry (seventh.now ∷ [])) command) }
+    ensures usage { OnErr result ((command : Command)
+        → IsCommand (six_with words.entry (seventh.now ∷ [])) command → ⊥) }
 {
-    match first {
-        "audit" => read_audit(first, second, third, fourth, fifth, sixth),
-        "live" => read_live(first, second, third, fourth, fifth, sixth),
+    match words.first {
+        "two_wire" => read_two_wire(words, seventh),
+        "audit" => {
+            let tolerance = read_late(seventh)?;
+            read_audit(words, tolerance)
+        }
         _ => Err(Usage),
     }
+}
+
+// Reads a command of eight words: `audit` with all of its words.
+fn read_eight(words: FirstSix<'_>, seventh: &str, eighth: &str) -> Result<Command, Usage>
+    ensures ok { IfOk result (λ command.
+        IsCommand (six_with words.entry (seventh.now ∷ eighth.now ∷ [])) command) }
+    ensures usage { OnErr result ((command : Command)
+        → IsCommand (six_with words.entry (seventh.now ∷ eighth.now ∷ [])) command → ⊥) }
+{
+    if words.first != "audit" {
+        return Err(Usage);
+    }
+    if eighth != "spaced" {
+        return Err(Usage);
+    }
+    let tolerance = read_range(seventh, true)?;
+    read_audit(words, tolerance)
 }
 
 /// Returns the command that the words after the program's name ask for. Each word is compared byte
@@ -463,22 +529,38 @@ pub fn read_words(words: &[String]) -> Result<Command, Usage>
             key.as_str(),
             path.as_str(),
         ),
-        [first, second, third, fourth, fifth, sixth] => read_six(
-            first.as_str(),
-            second.as_str(),
-            third.as_str(),
-            fourth.as_str(),
-            fifth.as_str(),
-            sixth.as_str(),
-        ),
-        [first, link, dir, side, window, pause, key] => {
-            let verb = first.as_str();
-            let link = link.as_str();
-            let dir = dir.as_str();
-            let side = side.as_str();
-            let window = window.as_str();
-            let pause = pause.as_str();
-            read_seven(verb, link, dir, side, window, pause, key.as_str())
+        [first, second, third, fourth, fifth, sixth] => {
+            let six = FirstSix {
+                first: first.as_str(),
+                second: second.as_str(),
+                third: third.as_str(),
+                fourth: fourth.as_str(),
+                fifth: fifth.as_str(),
+                sixth: sixth.as_str(),
+            };
+            read_six(six)
+        }
+        [first, second, third, fourth, fifth, sixth, seventh] => {
+            let six = FirstSix {
+                first: first.as_str(),
+                second: second.as_str(),
+                third: third.as_str(),
+                fourth: fourth.as_str(),
+                fifth: fifth.as_str(),
+                sixth: sixth.as_str(),
+            };
+            read_seven(six, seventh.as_str())
+        }
+        [first, second, third, fourth, fifth, sixth, seventh, eighth] => {
+            let six = FirstSix {
+                first: first.as_str(),
+                second: second.as_str(),
+                third: third.as_str(),
+                fourth: fourth.as_str(),
+                fifth: fifth.as_str(),
+                sixth: sixth.as_str(),
+            };
+            read_eight(six, seventh.as_str(), eighth.as_str())
         }
         _ => Err(Usage),
     }

@@ -12,30 +12,15 @@ ghost use Rattle.link_replay.specs.AuditCommand.{counts_words, finding_status, f
 ghost use Rattle.link_replay.specs.AuditCommand.{frame_or_none, frames_lines, verdict_text};
 ghost use Rattle.link_replay.specs.Commands.{HasCauses};
 
+use crate::words::Audited;
 use command_ends::{
-    Ends, KeyError, Profile, Proto, Status, Unclean, append_decimal, print_text, read_key,
-    status_of, write_frame_line,
+    Ends, KeyError, Status, Unclean, append_decimal, print_text, read_key, status_of,
+    write_frame_line,
 };
-use link_format::Dir;
 use session_audit::{Counts, Finding, ReadFrame, Session, Verdict, audit_input};
 use std::alloc::Global;
 use tick_drive::End;
 use yasir_io::{Sink, SlotDisk, Source, TextRoom};
-
-/// The link of a session that is audited, and the floors of its transmitter and receiver.
-#[derive(Clone, Copy, Debug, PartialEq, Eq)]
-pub struct Audited {
-    /// The protocol of the link.
-    pub proto: Proto,
-    /// The profile of the link.
-    pub profile: Profile,
-    /// The direction of the link.
-    pub dir: Dir,
-    /// The transmitter's floor before the session: 0, or the number of a frame.
-    pub sent_floor: u64,
-    /// The receiver's floor before the session: 0, or the number of a frame.
-    pub got_floor: u64,
-}
 
 // Returns the session of the link that is audited, with this key.
 fn session_of(asked: Audited, key: &[u8]) -> Session<'_>
@@ -53,6 +38,7 @@ fn session_of(asked: Audited, key: &[u8]) -> Session<'_>
         key,
         sent_floor: asked.sent_floor,
         got_floor: asked.got_floor,
+        tolerance: asked.tolerance,
     }
 }
 
@@ -214,8 +200,7 @@ pub fn audit<K: Source, S: Source, O: Sink, L: Sink, D: SlotDisk>(
     ensures audits { Audits K.Source S.Source O.Sink L.Sink asked (outside_before ends.entry)
         (outside_after ends.exit) result }
     ensures causes { HasCauses K.Source S.Source O.Sink L.Sink D.SlotDisk
-        (Some (Audit asked.proto asked.profile asked.dir asked.sent_floor asked.got_floor))
-        (outside_before ends.entry) (outside_after ends.exit) result }
+        (Some (Audit asked)) (outside_before ends.entry) (outside_after ends.exit) result }
 {
     match read_key(ends.key) {
         Ok(key) => audit_keyed(alloc, asked, key.as_slice(), ends),

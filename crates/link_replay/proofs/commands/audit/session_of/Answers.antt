@@ -9,4 +9,5 @@ returns-clause-verdicts c = verdict-is c.args.asked.proto c.args.asked.profile (
   key = c.args.key;
   sent_floor = c.args.asked.sent_floor;
   got_floor = c.args.asked.got_floor;
+  tolerance = c.args.asked.tolerance;
 })
