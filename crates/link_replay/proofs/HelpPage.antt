@@ -25,18 +25,18 @@ page_names_commands (Space proto profile) =
 page_names_commands (Replay proto profile dir) =
     record { before = take 599 HELP_PAGE; after = drop 619 HELP_PAGE; is = refl }
 page_names_commands (Audit asked) =
-    record { before = take 677 HELP_PAGE; after = drop 700 HELP_PAGE; is = refl }
+    record { before = take 677 HELP_PAGE; after = drop 723 HELP_PAGE; is = refl }
 page_names_commands (Duplex proto profile dir) =
-    record { before = take 751 HELP_PAGE; after = drop 771 HELP_PAGE; is = refl }
+    record { before = take 753 HELP_PAGE; after = drop 773 HELP_PAGE; is = refl }
 page_names_commands (TwoWire proto profile dir side waits) =
-    record { before = take 811 HELP_PAGE; after = drop 851 HELP_PAGE; is = refl }
+    record { before = take 813 HELP_PAGE; after = drop 853 HELP_PAGE; is = refl }
 page_names_commands (Trial proto profile seed count) =
-    record { before = take 891 HELP_PAGE; after = drop 913 HELP_PAGE; is = refl }
+    record { before = take 893 HELP_PAGE; after = drop 915 HELP_PAGE; is = refl }
 page_names_commands (Poll proto profile seed count) =
-    record { before = take 967 HELP_PAGE; after = drop 988 HELP_PAGE; is = refl }
+    record { before = take 969 HELP_PAGE; after = drop 990 HELP_PAGE; is = refl }
 page_names_commands Vectors =
-    record { before = take 1044 HELP_PAGE; after = drop 1055 HELP_PAGE; is = refl }
+    record { before = take 1046 HELP_PAGE; after = drop 1057 HELP_PAGE; is = refl }
 page_names_commands Help =
-    record { before = take 1117 HELP_PAGE; after = drop 1125 HELP_PAGE; is = refl }
+    record { before = take 1119 HELP_PAGE; after = drop 1127 HELP_PAGE; is = refl }
 page_names_commands Version =
-    record { before = take 1183 HELP_PAGE; after = drop 1194 HELP_PAGE; is = refl }
+    record { before = take 1185 HELP_PAGE; after = drop 1196 HELP_PAGE; is = refl }

@@ -12,11 +12,24 @@ use Rattle.command_ends.specs.declared.reasons.Reasons.{Reasons}
 use Rattle.command_ends.specs.declared.status.Status.{Status}
 use Rattle.command_ends.specs.declared.status.Status.TheVariants.{Usage}
 use Rattle.link_replay.specs.AboutCommands.{named_words}
+use Rattle.session_audit.specs.Sessions.{exact}
+use Rattle.link_replay.specs.declared.words.Audited.{Audited}
 use Rattle.link_replay.specs.declared.words.Command.{Command}
 use Rattle.link_replay.specs.declared.words.Command.TheVariants.{Init, Read, Vectors, Seal, Check}
 use Rattle.link_replay.specs.declared.words.Command.TheVariants.{Replay, Trial, Poll, Space}
 use Rattle.link_replay.specs.declared.words.Command.TheVariants.{Audit, Duplex, LiveSeal, LiveCheck}
 use Rattle.link_replay.specs.declared.words.Command.TheVariants.{TwoWire, Help, Version}
+
+-- some session
+abbrev pub any_audit : Audited
+any_audit = record {
+  proto = Rtu;
+  profile = Y18;
+  dir = Ab;
+  sent_floor = 0;
+  got_floor = 0;
+  tolerance = exact;
+}
 
 -- each first word of a command, and a command that has it: what else the command has doesn't matter
 abbrev pub first_words : List (List ℕ × Command)
@@ -24,7 +37,7 @@ first_words = (codes "read", Read Rtu) ∷ (codes "init", Init Rtu Y18 Ab)
     ∷ (codes "seal", Seal Rtu Y18 Ab) ∷ (codes "check", Check Rtu Y18 Ab)
     ∷ (codes "live", LiveSeal Rtu Y18 Ab) ∷ (codes "live", LiveCheck Rtu Y18 Ab)
     ∷ (codes "space", Space Rtu Y18) ∷ (codes "replay", Replay Rtu Y18 Ab)
-    ∷ (codes "audit", Audit Rtu Y18 Ab 0 0) ∷ (codes "duplex", Duplex Rtu Y18 Ab)
+    ∷ (codes "audit", Audit any_audit) ∷ (codes "duplex", Duplex Rtu Y18 Ab)
     ∷ (codes "two_wire", TwoWire Rtu Y18 Ab Asks (record { window = 0; pause = 0 }))
     ∷ (codes "trial", Trial Rtu Y18 0 0) ∷ (codes "poll", Poll Rtu Y18 0 0)
     ∷ (codes "vectors", Vectors) ∷ (codes "help", Help) ∷ (codes "version", Version) ∷ []

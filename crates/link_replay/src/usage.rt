@@ -27,7 +27,7 @@ fn usage_lines(first: &str) -> &'static [u8]
         }
         "space" => b"usage: link_replay space P\n",
         "replay" => b"usage: link_replay replay P DIR KEY\n",
-        "audit" => b"usage: link_replay audit P DIR KEY F G\n",
+        "audit" => b"usage: link_replay audit P DIR KEY F G [LEAST..MOST] [spaced]\n",
         "duplex" => b"usage: link_replay duplex P DIR KEY\n",
         "two_wire" => b"usage: link_replay two_wire P DIR SIDE WINDOW PAUSE KEY\n",
         "trial" => b"usage: link_replay trial P SEED COUNT\n",

@@ -13,7 +13,7 @@ use yasir_io::{Sink, SlotDisk, Source};
 pub const VERSION_LINE: [u8; 18] = *b"link_replay 0.7.0\n";
 
 /// The page that `help` prints.
-pub const HELP_PAGE: [u8; 2244] =
+pub const HELP_PAGE: [u8; 2370] =
     *b"link_replay runs the boxes that protect a serial line, over recorded lines and
 over lines as they come.
 
@@ -25,7 +25,7 @@ over lines as they come.
   live check P DIR KEY JOURNAL  the receiver, on a line as it comes
   space P                       a spacer: send on what is read, frame by frame
   replay P DIR KEY              list what was sealed, passed, read and forged
-  audit P DIR KEY F G           judge a session by three recordings of it
+  audit P DIR KEY F G [LEAST..MOST] [spaced]  judge a session by recordings
   duplex P DIR KEY              one box for both directions
   two_wire P DIR SIDE WINDOW PAUSE KEY  the same, on wires where all take turns
   trial P SEED COUNT            attack a session that is made from a number
@@ -42,6 +42,8 @@ SIDE     for whom the box speaks to its device: asks or answers
 WINDOW   the silent ticks in which an answer must begin, up to 1000000
 PAUSE    the silent ticks behind an answer's end, up to 1000000
 F, G     the last numbers of transmitter and receiver before the session
+LEAST..MOST  how many ticks later than the receiver frames may be read
+spaced   a spacer is in front of the third recording
 SEED     0 to 4294967295
 COUNT    1 to 10000
 
