@@ -38,3 +38,7 @@ mod second_profile;
 mod taking_over;
 #[cfg(test)]
 mod texts;
+#[cfg(test)]
+mod way_lines;
+#[cfg(test)]
+mod way_outputs;

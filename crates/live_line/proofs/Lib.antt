@@ -1,0 +1,10 @@
+pub mod Texts
+pub mod Parts
+pub mod LetteredBytes
+pub mod Growing
+pub mod HandingBoth
+pub mod SentBoth
+pub mod Ended
+pub mod Putting
+pub mod Worked
+pub mod Waiting

@@ -1,0 +1,9 @@
+pub mod WayText
+pub mod BothWays
+pub mod SentBoth
+pub mod WayBoxes
+pub mod PlainBoxes
+pub mod Guarded
+pub mod WayBoxLaws
+pub mod WayLines
+pub mod NoteEnds
