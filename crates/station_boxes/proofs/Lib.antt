@@ -1,0 +1,10 @@
+pub mod Steps
+pub mod Advancing
+pub mod Tables
+pub mod Stepping
+pub mod Hearing
+pub mod WholeSteps
+pub mod Closing
+pub mod Taking
+pub mod Keeping
+pub mod Owning

@@ -1,0 +1,26 @@
+//! The box of a control centre on a line that several stations share. Each station has a key and a
+//! counter of its own, and the station that a frame names chooses them.
+//!
+//! A transmitter over the stations of a table, for Modbus RTU and the profile y18:
+//!
+//!     let mut sealer: StationSealer<Rtu, HmacSha1, 2> =
+//!         StationSealer::new(Naming::FirstByte, Dir::Ab);
+//!     let step = sealer.step(tick, &mut stations)?;
+//!     send_to_link(step.tick);
+//!
+//! The caller keeps the stations, an array of as many as it has, and the box takes no memory.
+#![tactic(auto)]
+
+mod names;
+mod naming;
+mod note;
+mod sealer;
+mod station;
+
+pub use frame_ending::BoxStep;
+pub use link_format::Dir;
+pub use names::{NamedTwice, check_names};
+pub use naming::Naming;
+pub use note::{StationNote, UnsealedStationWhy};
+pub use sealer::StationSealer;
+pub use station::{Station, StationKey};
