@@ -1,6 +1,7 @@
 //! Which calls fail in a test, how many bytes a call moves, and sources and sinks that do so.
 ghost use Rattle.std.specs.Prelude.{◌≤◌};
 
+use command_ends::{Reasons, Status, fault_line, write_fault_line};
 use std::alloc::Global;
 use yasir_io::{MemSink, MemSource, NoMemory, Plan};
 
@@ -69,4 +70,15 @@ pub fn sinks(
     let out = sink(alloc, rooms.0, piece, failing.out)?;
     let log = sink(alloc, rooms.1, piece, failing.log)?;
     Ok((out, log))
+}
+
+/// Writes the fault line of a status to the log, for a key, an input and a journal in memory, which
+/// tell no reason.
+pub fn write_fault(log: &mut MemSink, status: &Status) {
+    let reasons = Reasons {
+        key: None,
+        input: None,
+        journal: None,
+    };
+    write_fault_line(log, fault_line(&reasons, status).as_slice());
 }

@@ -2,10 +2,10 @@
 ghost use Rattle.std.specs.Prelude.{◌≡◌};
 ghost use Rattle.sequence_journal.specs.Links.{HasDirection};
 
-use crate::outside::{Failing, STEADY, plan, sinks, source};
+use crate::outside::{Failing, STEADY, plan, sinks, source, write_fault};
 use crate::reading::has_read;
 use check_receiver::Checker;
-use command_ends::{Ends, Status, write_fault};
+use command_ends::{Ends, Status};
 use device_model::Device;
 use dnp_link_frame::Dnp;
 use line_commands::{LineBox, replay_box};

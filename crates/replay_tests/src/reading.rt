@@ -1,9 +1,9 @@
 //! Tests of a Modbus RTU device over recorded lines, and the functions with which tests read a
 //! line.
-use crate::outside::{BYTE_BY_BYTE, Failing, STEADY, sinks, source};
+use crate::outside::{BYTE_BY_BYTE, Failing, STEADY, sinks, source, write_fault};
 use crate::over_boxes::{has_status, holds};
 use crate::texts::add_times;
-use command_ends::{Status, write_fault};
+use command_ends::Status;
 use device_model::{Device, RtuDevice};
 use line_commands::read_frames;
 use std::alloc::{AllocError, Global};
