@@ -230,7 +230,8 @@ fn exports_are_taken(rt: HostRuntime) -> Result<(), Fail> {
     let ran = run_words(alloc, "take sigrok 9600x11 both", TRACE, 0, 0)?;
     ended(&rt, &ran, DONE, EXPORT_TICKS, NO_COUNTS);
     let ran = run_words(alloc, "take sigrok 9600x11 a", TABLE, 0, 0)?;
-    let row = b"counted: overlaps 0, errors 0, breaks 0, control lines 0\nfault: line 1 row\n";
+    let row = b"counted: overlaps 0, errors 0, breaks 0, control lines 0\n\
+        warning: no byte on way a: way a has 0, way b 0\nfault: line 1 row\n";
     assert_eq!(rt; ran.log.held(), row.as_slice());
     let short = &TRACE[..TRACE.len() - 3];
     let ran = run_words(alloc, "take sigrok 9600x11 a", short, 0, 0)?;

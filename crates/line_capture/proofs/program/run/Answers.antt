@@ -34,10 +34,12 @@ returns-clause-causes g c =
       input_never_falls = c.answer-outcome.ensures.input;
       sinks = sinks_after _ _ _ _ _ (status_in c.answer-outcome.result)
           c.answer-outcome.ensures.sinks ends.never_falls (λ none. ap g.L.Sink.faults
-          (ends.same (no_text _ _ c.answer-outcome.result none)));
+          (ends.same (no_text (map string_bytes c.args.words.now)
+          (of_input (g.S.TellsReason.told_reason c.answer-outcome.new.input)) c.answer-outcome.result none)));
       flushes = flushes_after g.O.Sink g.L.Sink _ _ _ _ _ (status_in c.answer-outcome.result)
           c.answer-outcome.ensures.flushes
-          (λ none. ends.same (no_text _ _ c.answer-outcome.result none))
+          (λ none. ends.same (no_text (map string_bytes c.args.words.now)
+          (of_input (g.S.TellsReason.told_reason c.answer-outcome.new.input)) c.answer-outcome.result none))
           c.write_fault_line.ensures.flushes;
     }
 
@@ -50,7 +52,8 @@ returns-clause-runs g c =
       asks = c.asked_by.ensures;
       runs = runs_of g.L.Sink line (CaptureDoes g.S.Source g.O.Sink g.L.Sink) _
           c.asked_by.result _ _ _ c.answer-outcome.result _ _ (status_in c.answer-outcome.result)
-          (no_text _ _ c.answer-outcome.result) c.answer-outcome.ensures.does
+          (no_text (map string_bytes c.args.words.now)
+          (of_input (g.S.TellsReason.told_reason c.answer-outcome.new.input)) c.answer-outcome.result) c.answer-outcome.ensures.does
           c.answer-outcome.ensures.sinks
           (subst (EndsLog g.L.Sink c.answer-outcome.new.log c.write_fault_line.new.log)
           (text_is g c) c.write_fault_line.ensures.ends)

@@ -73,7 +73,9 @@ returns-clause-causes g c = λ asked asks.
     c.answer-status.result) same
     (causes_after g.K.Source g.S.Source g.O.Sink g.L.Sink g.D.SlotDisk c.asked_by-asked.result
     before after ends.log c.answer-status.result c.as_slice.result.now
-    (λ none. text_is g c ∙ no_text _ _ c.answer-status.result none)
+    (λ none. text_is g c ∙ no_text (map string_bytes c.args.words.now)
+    (told_by g.K.TellsReason.told_reason g.S.TellsReason.told_reason g.D.TellsReason.told_reason
+    c.answer-status.new.key ends.input c.answer-status.new.disk) c.answer-status.result none)
     c.answer-status.ensures.causes c.log_fault.ensures.ends c.log_fault.ensures.flushes)
 
 pub returns-clause-done : goal.returns-clause-done

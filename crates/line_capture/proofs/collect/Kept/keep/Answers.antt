@@ -4,7 +4,7 @@ use Rattle.line_capture.proofs.collect.Kept.keep.Goals as goal
 
 pub returns-then-not-takes : goal.returns-then-not-takes
 returns-then-not-takes c = passes_byte c.args.ways c.args.self.now c.args.byte
-    c.saturating_add.result (sym c.takes.ensures ∙ c.if-not-takes.true) c.saturating_add.ensures
+    c.saturating_add-self.result (sym c.takes.ensures ∙ c.if-not-takes.true) c.saturating_add-self.ensures
 
 pub returns-in-A : goal.returns-in-A
 returns-in-A c = on_ok_weaker c.push.result (takes_a c.args.ways c.args.self.now c.args.byte _
