@@ -1,11 +1,11 @@
 -- The text of a way never loses a byte as a stream goes on.
-use Rattle.std.proofs.Common.{◌≡◌, ◌≢◌, ◌∙◌, ◌==◌, ℕ, ◌+◌, List, [], ◌∷◌, ◌++◌, length, Bool, true, false}
-use Rattle.std.proofs.Common.{refl, ap, sym, arith, append-nil, append_assoc, eqb-true, length-append, cond}
+use Rattle.std.proofs.Common.{◌≡◌, ◌≢◌, ◌∙◌, ◌==◌, ℕ, List, [], ◌∷◌, ◌++◌, Bool, true, false}
+use Rattle.std.proofs.Common.{refl, ap, sym, append-nil, append_assoc, eqb-true, cond}
 use Rattle.std.proofs.lemmas.Grind.{flat_map-append}
-use Rattle.std.proofs.lemmas.List.{append_cancel_left, nil_from_length}
+use Rattle.std.proofs.lemmas.List.{append_cancel_left}
 use Rattle.std.specs.List.{flat_map}
 use Rattle.yasir_ticks.proofs.Lines.{lines_of-lf, lines_of-more}
-use Rattle.yasir_ticks.specs.TickText.{Lines, lines_of}
+use Rattle.yasir_ticks.specs.TickText.{lines_of}
 use Rattle.live_line.proofs.Texts.{by_lines}
 use Rattle.live_line.specs.WayText.{letter_of, own_part, own_line, text_on}
 use Rattle.live_line.specs.declared.ways.Way.{Way}

@@ -1,17 +1,17 @@
 -- What calls add to a history of both ways, and what they hand on.
 use Rattle.line_commands.proofs.Handing.{told_more, read_more, written_more, flushed_more}
-use Rattle.line_commands.proofs.Texts.{text_then, text_as}
+use Rattle.line_commands.proofs.Texts.{text_as}
 use Rattle.line_commands.specs.History.{Event, History, told_then, bytes_read_before, read_by, written}
 use Rattle.line_commands.specs.History.{is_flushed, flushed_from}
 use Rattle.line_commands.specs.History.Event.{reads, writes, flushes}
 use Rattle.line_commands.specs.LiveText.{IsTextOf}
 use Rattle.line_commands.specs.declared.port.Output.{Output, TheVariants.Out, TheVariants.Log}
-use Rattle.line_texts.specs.Sending.{LineAndNotes, AnswersNoted}
-use Rattle.live_line.proofs.Growing.{GoesOn, grows}
+use Rattle.line_texts.specs.Sending.{LineAndNotes}
+use Rattle.live_line.proofs.Growing.{grows}
 use Rattle.live_line.specs.BothWays.{grown, HasNotedBoth, MayComeBoth, EachMayComeBoth, HandedBoth}
-use Rattle.live_line.specs.BothWays.{HandedBothFronts, IsInOrderBoth, HasHandedOnBoth, lines_in}
-use Rattle.live_line.specs.SentBoth.{AddsText, joined, sent_pieces}
-use Rattle.live_line.specs.WayText.{text_on, AreEnded}
+use Rattle.live_line.specs.BothWays.{IsInOrderBoth, HasHandedOnBoth, lines_in}
+use Rattle.live_line.specs.SentBoth.{joined, sent_pieces}
+use Rattle.live_line.specs.WayText.{text_on}
 use Rattle.live_line.specs.declared.ways.Way.{Way, TheVariants.Outgoing, TheVariants.Incoming}
 use Rattle.std.proofs.Common.{◌≡◌, ◌≢◌, ◌∙◌, ◌⊎◌, ℕ, List, [], ◌∷◌, ◌++◌, true, false, refl, ap, sym}
 use Rattle.std.proofs.Common.{append-nil, append_assoc, inl, inr, Option, Some, None, subst}

@@ -1,6 +1,6 @@
 -- Bytes of a text that are put after a stream, each line behind its letter.
-use Rattle.std.proofs.Common.{◌≡◌, ◌≢◌, ◌∙◌, ◌==◌, ℕ, zero, suc, ◌<◌, List, [], ◌∷◌, ◌++◌, length, Bool, true, false}
-use Rattle.std.proofs.Common.{refl, ap, sym, subst, arith, append-nil, append_assoc, get_or, eqb-true, eq-eqb, cond}
+use Rattle.std.proofs.Common.{◌≡◌, ◌≢◌, ◌∙◌, ◌==◌, ℕ, zero, suc, List, [], ◌∷◌, ◌++◌, Bool, true, false}
+use Rattle.std.proofs.Common.{refl, ap, sym, subst, arith, append-nil, append_assoc, eqb-true, eq-eqb, cond}
 use Rattle.yasir_ticks.proofs.Lines.{IsFree, lines_of-more}
 use Rattle.yasir_ticks.specs.TickText.{Lines, lines_of}
 use Rattle.live_line.proofs.Texts.{begun, begun_last, gone_on, gone_on_last, gone_on_other, ended}

@@ -1,14 +1,13 @@
 -- Bytes that go on with a line of a way, and the bytes of a line behind its letter.
-use Rattle.std.proofs.Common.{◌≡◌, ◌≢◌, ◌∙◌, ℕ, suc, ◌+◌, ◌<◌, ◌≤◌, List, [], ◌∷◌, ◌++◌, length, take, drop}
-use Rattle.std.proofs.Common.{refl, ap, sym, subst, arith, append_assoc, get_or, Option, Some, None}
+use Rattle.std.proofs.Common.{◌≡◌, ◌≢◌, ◌∙◌, ℕ, suc, ◌+◌, ◌<◌, List, [], ◌∷◌, ◌++◌, length, take, drop}
+use Rattle.std.proofs.Common.{refl, ap, sym, subst, arith, append_assoc, get_or, Some, None}
 use Rattle.std.proofs.Math.Seq.{take-length}
 use Rattle.std.proofs.lemmas.List.{take_more, get_or-take, length-take-le}
 use Rattle.yasir_ticks.proofs.Lines.{IsFree}
 use Rattle.yasir_ticks.specs.TickText.{lines_of}
-use Rattle.live_line.proofs.Texts.{begun, begun_last, gone_on, gone_on_last, gone_on_other, ended}
+use Rattle.live_line.proofs.Texts.{begun, gone_on, gone_on_last, gone_on_other, ended}
 use Rattle.live_line.proofs.Texts.{ended_last, ended_other}
-use Rattle.live_line.specs.WayText.{letter_of, text_on, IsWithin, HasParted, Adds, Goes, Parts}
-use Rattle.live_line.specs.declared.ways.Part.{Part}
+use Rattle.live_line.specs.WayText.{letter_of, text_on, IsWithin, HasParted, Adds, Goes}
 use Rattle.live_line.specs.declared.ways.Way.{Way}
 use Rattle.live_line.specs.declared.ways.Ways.{Ways}
 

@@ -1,27 +1,26 @@
 -- A text that is written in pieces, each line with the letter of its way before it.
 use Rattle.line_commands.proofs.{Histories.told_twice, Histories.told_none, SentBytes.cause_then}
-use Rattle.line_commands.specs.History.{Event, History, told_then, Event.writes, Event.flushes}
+use Rattle.line_commands.specs.History.{History, told_then, Event.writes, Event.flushes}
 use Rattle.line_commands.specs.LiveText.{IsTextOf}
 use Rattle.line_commands.specs.Sent.{WritesCause, SendsTicks}
 use Rattle.line_commands.specs.declared.port.Output.{Output, TheVariants.Out, TheVariants.Log}
 use Rattle.line_commands.specs.declared.port.Port.{Ghosts as Port}
-use Rattle.live_line.proofs.Ended.{ended_nil, ended_text}
+use Rattle.live_line.proofs.Ended.{ended_text}
 use Rattle.live_line.proofs.Growing.{Splits, front_adds, front_keeps}
 use Rattle.live_line.proofs.SentBoth.{NotedBoth, noted_sent, noted_cut, text_sent, text_cut}
-use Rattle.live_line.specs.BothWays.{grown, HandedBoth, HandedBothFronts}
+use Rattle.live_line.specs.BothWays.{HandedBoth}
 use Rattle.live_line.specs.SentBoth.{AddsText, AddsFront, joined, sent_pieces, PutsText}
 use Rattle.live_line.specs.SentBoth.{SendsWay, HandsOnWay}
 use Rattle.live_line.specs.WayText.{text_on, AreEnded, HasLettered}
 use Rattle.live_line.specs.declared.lettered.Lettering.{Lettering}
 use Rattle.live_line.specs.declared.ways.Way.{Way}
 use Rattle.line_texts.specs.Sending.{LineAndNotes, AnswersNoted}
-use Rattle.std.proofs.Common.{◌≡◌, ◌≢◌, ◌∙◌, ◌⊎◌, ℕ, List, [], ◌∷◌, ◌++◌, true, false, Bool, Result, Ok}
-use Rattle.std.proofs.Common.{Err, refl, ap, sym, subst, append-nil, append_assoc, take, drop, length, ◌-◌, OnOk, OnErr}
+use Rattle.std.proofs.Common.{◌≡◌, ◌∙◌, ℕ, List, [], ◌∷◌, ◌++◌, true, false, Bool, Result, Ok}
+use Rattle.std.proofs.Common.{Err, refl, ap, sym, subst, append-nil, append_assoc, take, drop, length, ◌-◌}
 use Rattle.std.proofs.lemmas.Grind.{flat_map-append}
 use Rattle.std.proofs.lemmas.List.{take_rest, take-append-drop}
-use Rattle.std.specs.List.{flat_map}
 use Rattle.yasir_io.specs.declared.Failed.{Failed}
-use Rattle.yasir_ticks.specs.{TickText.lines_of, declared.tick.Tick.Tick}
+use Rattle.yasir_ticks.specs.{declared.tick.Tick.Tick}
 
 -- A front of the bytes of a lettering adds a front of its text.
 pub adds_front : (lettering : Lettering) (way : Way) (stream text front rest : List ℕ)

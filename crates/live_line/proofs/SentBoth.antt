@@ -1,12 +1,11 @@
 -- What calls that write a text of one way hand on.
 use Rattle.line_commands.proofs.Handing.{told_more, read_more, written_more, flushed_more}
-use Rattle.line_commands.proofs.Histories.{told_twice, told_none}
 use Rattle.line_commands.proofs.Texts.{text_then, text_as}
 use Rattle.line_commands.specs.History.{Event, History, told_then, bytes_read_before, written}
 use Rattle.line_commands.specs.History.{is_flushed}
 use Rattle.line_commands.specs.History.Event.{writes, flushes}
 use Rattle.line_commands.specs.LiveText.{IsTextOf}
-use Rattle.line_commands.specs.declared.port.Output.{Output, TheVariants.Out, TheVariants.Log}
+use Rattle.line_commands.specs.declared.port.Output.{TheVariants.Out, TheVariants.Log}
 use Rattle.line_texts.specs.Sending.{LineAndNotes, AnswersNoted}
 use Rattle.live_line.proofs.HandingBoth.{same_way, grown_own, grown_other, at_way, at_own, at_other}
 use Rattle.live_line.proofs.HandingBoth.{each_then, each_longer, read_pieces, written_pieces}

@@ -3,26 +3,24 @@ use Rattle.line_commands.proofs.Texts.{text_one}
 use Rattle.line_commands.specs.History.{History}
 use Rattle.line_commands.specs.LiveText.{IsTextOf}
 use Rattle.line_commands.specs.Sent.{WritesCause}
-use Rattle.line_commands.specs.declared.port.Output.{Output}
 use Rattle.line_commands.specs.declared.port.Port.{Ghosts as Port}
 use Rattle.line_texts.proofs.Added.{answers_both}
 use Rattle.line_texts.specs.Adding.{TextAdds, Waits, ClosesText}
 use Rattle.line_texts.specs.Sending.{LineAndNotes, AnswersNoted, Waiting}
 use Rattle.line_texts.specs.Writer.{WriterHasWritten}
 use Rattle.link_format.specs.Setup.{Setup}
-use Rattle.live_line.specs.BothWays.{grown, HandedBoth, HandedBothFronts}
+use Rattle.live_line.specs.BothWays.{HandedBoth}
 use Rattle.live_line.specs.SentBoth.{HandsOnWay}
 use Rattle.live_line.specs.WayBoxes.{AddsTick}
-use Rattle.live_line.specs.WayLines.{HasTakenOn, PortKept, WayOutside, Behind, HandedOn, HandedFronts}
-use Rattle.live_line.specs.WayLines.{waits_in, settled_in, way_in, KeepsImages}
+use Rattle.live_line.specs.WayLines.{HasTakenOn, PortKept, WayOutside, HandedOn, HandedFronts}
+use Rattle.live_line.specs.WayLines.{waits_in, settled_in, way_in}
 use Rattle.live_line.specs.declared.way_box.WayBox.{Ghosts as WayBox}
 use Rattle.live_line.specs.declared.way_lines.WayLines.{WayLines}
 use Rattle.live_line.specs.declared.ways.Way.{Way}
-use Rattle.std.proofs.Common.{◌≡◌, ◌∙◌, ℕ, List, [], ◌∷◌, ◌++◌, Bool, true, false, Result, Ok, Err}
+use Rattle.std.proofs.Common.{◌≡◌, ◌∙◌, ℕ, List, [], ◌∷◌, ◌++◌, true, false, Ok, Err}
 use Rattle.std.proofs.Common.{refl, ap, sym, subst, append_assoc, append-nil}
 use Rattle.yasir_io.specs.declared.Failed.{Failed}
 use Rattle.yasir_io.specs.declared.disk.SlotDisk.{Ghosts as SlotDisk}
-use Rattle.yasir_ticks.specs.CanonicalText.{canonical_text}
 use Rattle.yasir_ticks.specs.declared.tick.Tick.{Tick}
 
 -- what waits, with ticks and a note that were added

@@ -1,4 +1,4 @@
-use Rattle.std.proofs.Common.{◌≡◌, ℕ, ◌≤◌, List, ◌++◌, length, ◌*◌, take}
+use Rattle.std.proofs.Common.{ℕ, ◌≤◌, List, ◌++◌, length, ◌*◌, take}
 use Rattle.live_line.proofs.LetteredBytes.{lettering_of}
 use Rattle.live_line.specs.WayText.{HasLettered}
 use Rattle.live_line.specs.declared.ways.Way.{Way}

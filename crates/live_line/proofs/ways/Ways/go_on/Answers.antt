@@ -1,4 +1,4 @@
-use Rattle.std.proofs.Common.{◌≡◌, ℕ, ◌<◌, length, get_or, refl, arith, eq-eqb}
+use Rattle.std.proofs.Common.{refl, arith, eq-eqb}
 use Rattle.live_line.proofs.Parts.{goes_free, goes_line}
 use Rattle.live_line.proofs.ways.Ways.go_on.Goals as goal
 

@@ -1,4 +1,4 @@
-use Rattle.std.proofs.Common.{◌≡◌, ℕ, ◌<◌, ◌∷◌, [], ◌++◌, List, length, subst, sym, refl, arith}
+use Rattle.std.proofs.Common.{◌∷◌, [], ◌++◌, subst, arith}
 use Rattle.live_line.proofs.Parts.{adds_letter, parted_some, parted_none}
 use Rattle.live_line.proofs.Texts.{begun_last}
 use Rattle.std.proofs.lemmas.List.{take_rest}
