@@ -3,6 +3,7 @@
 //!
 //! A transmitter over the stations of a table, for Modbus RTU and the profile y18:
 //!
+//!     check_names(&stations)?;
 //!     let mut sealer: StationSealer<Rtu, HmacSha1, 2> =
 //!         StationSealer::new(Naming::FirstByte, Dir::Ab);
 //!     let step = sealer.step(tick, &mut stations)?;
