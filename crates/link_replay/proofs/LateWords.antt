@@ -5,7 +5,9 @@ use Rattle.std.proofs.Common.{◌≡◌, ◌∙◌, ℕ, zero, suc, ◌≤◌, �
 use Rattle.std.proofs.Common.{◌++◌, cond, nat_eq, length, refl, ap, arith, inl, inr, get_or}
 use Rattle.std.proofs.lemmas.{Bool.cases_Bool, Bool.eqb-true, Fmt.decimal_is_IsNumeral}
 use Rattle.std.proofs.lemmas.Str.Parse.{digit_at, tells_digits}
-use Rattle.std.proofs.Common.{◌⊎◌, ⊎_elim, sym}
+use Rattle.std.proofs.Common.{◌⊎◌, ⊎_elim, sym, Bor, MatchOption, Option}
+use Rattle.std.proofs.lemmas.List.{append_assoc}
+use Rattle.std.proofs.lemmas.Str.Pattern.{IsSplitOnceResult, split_after}
 use Rattle.std.specs.Prelude.{codes, decimal}
 use Rattle.std.specs.Str.Parse.{AllDigits, digits_value}
 
@@ -77,15 +79,25 @@ tolerance_by (word ∷ other ∷ more) = range_by word true
 abbrev range_of : ℕ → ℕ → List ℕ
 range_of least most = decimal least ++ codes ".." ++ decimal most
 
+dots : (word : List ℕ) → codes ".." ++ word ≡ 46 ∷ 46 ∷ word
+dots word = refl
+
+range-dotted : (least most : ℕ) → range_of least most ≡ decimal least ++ 46 ∷ 46 ∷ decimal most
+range-dotted least most = append_assoc (decimal least) (codes "..") (decimal most)
+    ∙ ap (λ word. decimal least ++ word) (dots (decimal most))
+
 range-by : (least most : ℕ) (spaced : Bool) → least ≤ most → most ≤ most_ticks
     → range_by (range_of least most) spaced ≡ tolerance_of least most spaced
 range-by least most spaced ordered few =
     let low : least ≤ most_ticks = omega (arith, ordered, few) in
     let first : digits_value 10 (before_dot (range_of least most)) ≡ least =
-    ap (digits_value 10) (before-digits (decimal least) (46 ∷ decimal most) (all-digits least low))
-    ∙ (decimal_is_IsNumeral least (omega (arith, low))).1 in
+    ap (λ w. digits_value 10 (before_dot w)) (range-dotted least most)
+    ∙ (ap (digits_value 10)
+    (before-digits (decimal least) (46 ∷ decimal most) (all-digits least low))
+    ∙ (decimal_is_IsNumeral least (omega (arith, low))).1) in
     let rest : after_dot (range_of least most) ≡ 46 ∷ decimal most =
-    after-digits (decimal least) (46 ∷ decimal most) (all-digits least low) in
+    ap after_dot (range-dotted least most)
+    ∙ after-digits (decimal least) (46 ∷ decimal most) (all-digits least low) in
     let second : digits_value 10 (after_dot (after_dot (range_of least most))) ≡ most =
     ap (λ w. digits_value 10 (after_dot w)) rest
     ∙ (decimal_is_IsNumeral most (omega (arith, few))).1 in
@@ -109,7 +121,8 @@ late-by least most false more ordered few (inl is) =
     let numeral = (decimal_is_IsNumeral least (omega (arith, ordered, few))).0 in
     ap tolerance_by is
     ∙ (ap (λ b. cond b (tolerance_of 0 0 true) (range_by (range_of least most) false))
-    (first-digit (decimal least) (codes ".." ++ decimal most) numeral.0 numeral.1)
+    (ap (λ w. nat_eq (first_byte w) 115) (range-dotted least most)
+    ∙ first-digit (decimal least) (46 ∷ 46 ∷ decimal most) numeral.0 numeral.1)
     ∙ range-by least most false ordered few)
 late-by least most true more ordered few (inr none) =
     ap tolerance_by none.2
@@ -124,6 +137,17 @@ pub tolerance-by : (tolerance : Tolerance) (more : List (List ℕ)) → MayBeLat
     → AreLateWords tolerance more → tolerance_by more ≡ tolerance
 tolerance-by tolerance more may late =
     late-by tolerance.least tolerance.most tolerance.spaced more may.ordered may.few late
+
+-- ---- such a word parted at its first dot
+
+pub parted : (tolerance : Tolerance) (word : List ℕ) (r : Option (Bor (List ℕ) × Bor (List ℕ)))
+    → MayBeLate tolerance → IsSplitOnceResult 46 word r → word ≡ range_word tolerance
+    → MatchOption r ⊥ (λ x. (x.0.now ≡ decimal tolerance.least)
+    × (x.1.now ≡ 46 ∷ decimal tolerance.most))
+parted tolerance word r may cases is =
+    split_after 46 word (decimal tolerance.least) (46 ∷ decimal tolerance.most) r cases (omega arith)
+    (is ∙ range-dotted tolerance.least tolerance.most)
+    (no-dot tolerance.least (omega (arith, may.ordered, may.few)))
 
 -- ---- how many words there are
 

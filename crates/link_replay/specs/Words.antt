@@ -145,7 +145,7 @@ abbrev pub TakesMemory : Command → Type 0
 TakesMemory (Replay proto profile dir) = Unit {0}
 TakesMemory (Poll proto profile seed count) = Unit {0}
 TakesMemory (Space proto profile) = Unit {0}
-TakesMemory (Audit proto profile dir sent got) = Unit {0}
+TakesMemory (Audit asked) = Unit {0}
 TakesMemory (Duplex proto profile dir) = Unit {0}
 TakesMemory (TwoWire proto profile dir side waits) = Unit {0}
 TakesMemory command = ⊥

@@ -38,8 +38,8 @@ words6 c = six string_bytes c.args.words.now c.in-len6.len_at_least c.in-len6.le
     c.second-item-then-words-lt7.is
     c.third-item-then-words-lt7.is
     c.fourth-item-then-words-lt7.is
-    c.fifth-item-then-words-lt7.is
-    c.sixth-item-then-words-lt7.is
+    c.fifth-item.is
+    c.sixth-item.is
     c.as_str-in-len6.ensures.value
     c.as_str-in-len6-2.ensures.value
     c.as_str-in-len6-3.ensures.value
@@ -92,7 +92,7 @@ words7 c = seven string_bytes c.args.words.now c.in-len7.len_at_least c.in-len7.
     c.fourth-item-then-words-lt8.is
     c.fifth-item-then-words-lt8.is
     c.sixth-item-then-words-lt8.is
-    c.seventh-item-then-words-lt8.is
+    c.seventh-item.is
     c.as_str-in-len7.ensures.value
     c.as_str-in-len7-2.ensures.value
     c.as_str-in-len7-3.ensures.value
