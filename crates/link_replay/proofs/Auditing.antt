@@ -24,13 +24,13 @@ use Rattle.session_lists.specs.declared.lateness.Spacing.{Spacing}
 use Rattle.session_audit.specs.Verdicts.{verdict_on}
 use Rattle.session_audit.specs.declared.{session.Session.Session, verdict.Verdict.Verdict}
 use Rattle.session_audit.specs.declared.verdict.Finding.{Finding}
-use Rattle.session_audit.specs.declared.verdict.Finding.TheVariants.{Empty, Forged, Differs, Clean}
+use Rattle.session_audit.specs.declared.verdict.Finding.TheVariants.{Clean}
 use Rattle.std.proofs.Common.{◌≡◌, ◌⊎◌, ◌∙◌, ℕ, List, ◌++◌, Option, inl, inr, refl}
 use Rattle.std.proofs.Common.{subst, sym, ap, Bool, true, false}
 use Rattle.std.proofs.Common.{arith}
 use Rattle.std.specs.Io.KnownBytes.{append_known}
 use Rattle.tick_drive.specs.declared.{consumer.Stop.Stop, end.End.End, end.End.TheVariants.Whole}
-use Rattle.tick_drive.specs.declared.end.End.TheVariants.{Refused, TooLong, ReadFault, Stopped}
+use Rattle.tick_drive.specs.declared.end.End.TheVariants.{Stopped}
 use Rattle.yasir_io.specs.declared.sink.Sink.{Ghosts as Sink}
 use Rattle.yasir_ticks.specs.Ticks.{Item, silent}
 use Rattle.yasir_ticks.specs.declared.{TheConstants.T3_5_TICKS, tick.Tick.Tick}

@@ -15,8 +15,7 @@ use Rattle.yasir_io.specs.declared.source.Source.{Ghosts as Source}
 use Rattle.yasir_ticks.specs.declared.tick.Tick.{Tick}
 use Rattle.tick_drive.specs.declared.consumer.Stop.TheVariants as stops
 use Rattle.tick_drive.specs.declared.end.End.{End}
-use Rattle.tick_drive.specs.declared.end.End.TheVariants.{Whole, Refused, Stopped}
-use Rattle.tick_drive.specs.declared.end.End.TheVariants as ends
+use Rattle.tick_drive.specs.declared.end.End.TheVariants.{Whole, Stopped}
 use Rattle.line_commands.specs.Recording.{BothTexts, HoldsTexts, PrintsBoth, RecordsWhole}
 use Rattle.line_commands.specs.{Recording.EndsOtherwise, declared.recording.Recorded.Recorded}
 use Rattle.link_replay.proofs.KeyedRuns.{EndsAs, keyed_done}

@@ -1,7 +1,7 @@
 -- The words that say how late a frame may be, read back.
 use Rattle.link_replay.specs.Words.{AreLateWords, MayBeLate, range_word, spaced_words, most_ticks}
 use Rattle.session_audit.specs.declared.session.Tolerance.{Tolerance}
-use Rattle.std.proofs.Common.{◌≡◌, ◌∙◌, ℕ, zero, suc, ◌≤◌, ◌<◌, ◌^◌, Bool, true, false, List, [], ◌∷◌}
+use Rattle.std.proofs.Common.{◌≡◌, ◌∙◌, ℕ, ◌≤◌, ◌<◌, Bool, true, false, List, [], ◌∷◌}
 use Rattle.std.proofs.Common.{◌++◌, cond, nat_eq, length, refl, ap, arith, inl, inr, get_or}
 use Rattle.std.proofs.lemmas.{Bool.cases_Bool, Bool.eqb-true, Fmt.decimal_is_IsNumeral}
 use Rattle.std.proofs.lemmas.Str.Parse.{digit_at, tells_digits}

@@ -33,10 +33,10 @@ use Rattle.line_commands.proofs.SpaceEnds.{nothing_taken}
 use Rattle.line_commands.specs.PrintsFrames.{HasPrinted, HasPrintedFront, read_rest}
 use Rattle.line_commands.specs.SpacesLine.{TakesNothing, space_rest}
 use Rattle.line_texts.specs.Sending.{TextsHaveSent, HasSentFronts}
-use Rattle.std.proofs.Common.{◌≡◌, ◌∙◌, ℕ, ◌≤◌, ◌⊎◌, List, [], Option, Some, None}
+use Rattle.std.proofs.Common.{◌≡◌, ◌∙◌, ℕ, ◌⊎◌, List, [], Option, Some, None}
 use Rattle.std.proofs.Common.{IfSome, inl, inr}
-use Rattle.std.proofs.Common.{refl, sym, ap, subst, arith}
-use Rattle.yasir_io.specs.{Causes.Rose, Disks.Slots, Flushed.IsNotFlushed}
+use Rattle.std.proofs.Common.{refl, sym, ap, subst}
+use Rattle.yasir_io.specs.{Disks.Slots, Flushed.IsNotFlushed}
 use Rattle.yasir_io.specs.declared.{disk.SlotDisk.Ghosts as SlotDisk, sink.Sink.Ghosts as Sink}
 use Rattle.yasir_io.specs.declared.source.Source.{Ghosts as Source}
 

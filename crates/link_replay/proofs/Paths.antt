@@ -2,10 +2,7 @@
 use Rattle.link_replay.{proofs.Asking.asks-one, specs.OverFiles.path_in}
 use Rattle.link_replay.specs.{OverFiles.journal_kind, Words.IsCommand, Words.AskForJournal}
 use Rattle.link_replay.specs.{Words.Asks, Words.word_in, declared.words.Command.Command}
-use Rattle.link_replay.specs.declared.words.Command.TheVariants.{Init, Read, Vectors, Seal, Check}
-use Rattle.link_replay.specs.declared.words.Command.TheVariants.{Replay, Trial, Poll, Space, Audit}
-use Rattle.link_replay.specs.declared.words.Command.TheVariants.{Duplex, LiveSeal, LiveCheck}
-use Rattle.link_replay.specs.declared.words.Command.TheVariants.{TwoWire, Help, Version}
+use Rattle.link_replay.specs.declared.words.Command.TheVariants.{Init}
 use Rattle.std.proofs.Common.{◌≡◌, ℕ, List, Option, Some, None, refl, sym, ap}
 use Rattle.yasir_io.specs.declared.files.SlotFile.TheVariants.{Standing, New}
 

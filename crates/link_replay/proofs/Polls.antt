@@ -9,7 +9,7 @@ use Rattle.device_model.specs.Stated.StatedDevice.{rtu, dnp}
 use Rattle.link_format.specs.Profile.{Profile as LinkProfile, delay}
 use Rattle.link_replay.specs.PollCommand.{Polls, PrintsPolls, TellsPolls}
 use Rattle.poll_session.specs.Polled.{PollsTell, SessionsTell}
-use Rattle.std.proofs.Common.{◌≡◌, ◌≤◌, ℕ, List, arith}
+use Rattle.std.proofs.Common.{◌≤◌, ℕ, List, arith}
 use Rattle.yasir_io.specs.declared.sink.Sink.{Ghosts as Sink}
 
 soon : (profile : Profile) → delay_of profile ≤ 37

@@ -1,6 +1,6 @@
 -- What the program says last on the log: its fault line, and after words that fit no command the
 -- words that the command wants.
-use Rattle.std.specs.Prelude.{ℕ, List, [], ◌∷◌, ◌++◌, map, codes, bytes_eq, Option, Some, None}
+use Rattle.std.specs.Prelude.{ℕ, List, [], ◌∷◌, ◌++◌, codes, bytes_eq, Option, Some, None}
 use Rattle.std.specs.Prelude.{if◌then◌else◌}
 use Rattle.std.specs.List.{filter_map, concat}
 use Rattle.link_format.specs.declared.dir.Dir.TheVariants.{Ab}

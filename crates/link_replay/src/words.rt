@@ -504,6 +504,21 @@ fn read_eight(words: FirstSix<'_>, seventh: &str, eighth: &str) -> Result<Comman
     read_audit(words, tolerance)
 }
 
+// Reads a command of six words or more.
+fn read_long(words: FirstSix<'_>, more: &[String]) -> Result<Command, Usage>
+    ensures ok { IfOk result (λ command.
+        IsCommand (six_with words.entry (map string_bytes more.now)) command) }
+    ensures usage { OnErr result ((command : Command)
+        → IsCommand (six_with words.entry (map string_bytes more.now)) command → ⊥) }
+{
+    match more {
+        [] => read_six(words),
+        [seventh] => read_seven(words, seventh.as_str()),
+        [seventh, eighth] => read_eight(words, seventh.as_str(), eighth.as_str()),
+        _ => Err(Usage),
+    }
+}
+
 /// Returns the command that the words after the program's name ask for. Each word is compared byte
 /// for byte.
 pub fn read_words(words: &[String]) -> Result<Command, Usage>
@@ -529,7 +544,7 @@ pub fn read_words(words: &[String]) -> Result<Command, Usage>
             key.as_str(),
             path.as_str(),
         ),
-        [first, second, third, fourth, fifth, sixth] => {
+        [first, second, third, fourth, fifth, sixth, more @ ..] => {
             let six = FirstSix {
                 first: first.as_str(),
                 second: second.as_str(),
@@ -538,29 +553,7 @@ pub fn read_words(words: &[String]) -> Result<Command, Usage>
                 fifth: fifth.as_str(),
                 sixth: sixth.as_str(),
             };
-            read_six(six)
-        }
-        [first, second, third, fourth, fifth, sixth, seventh] => {
-            let six = FirstSix {
-                first: first.as_str(),
-                second: second.as_str(),
-                third: third.as_str(),
-                fourth: fourth.as_str(),
-                fifth: fifth.as_str(),
-                sixth: sixth.as_str(),
-            };
-            read_seven(six, seventh.as_str())
-        }
-        [first, second, third, fourth, fifth, sixth, seventh, eighth] => {
-            let six = FirstSix {
-                first: first.as_str(),
-                second: second.as_str(),
-                third: third.as_str(),
-                fourth: fourth.as_str(),
-                fifth: fifth.as_str(),
-                sixth: sixth.as_str(),
-            };
-            read_eight(six, seventh.as_str(), eighth.as_str())
+            read_long(six, more)
         }
         _ => Err(Usage),
     }

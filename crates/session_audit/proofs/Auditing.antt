@@ -6,13 +6,13 @@ use Rattle.device_model.specs.{Frames.FrameRead, Stated.StatedDevice.rtu, Stated
 use Rattle.{dnp_link_frame.specs.Rules.dnp_rules, line_rules.specs.RulesLaws.IsLawful}
 use Rattle.dnp_link_frame.specs.RulesLaws.{dnp_lawful, dnp_headed}
 use Rattle.link_format.specs.NumberedFrame.{NumberedFrame, numbers_of}
-use Rattle.link_format.specs.{Profile.delay, Setup.Setup}
+use Rattle.link_format.specs.{Setup.Setup}
 use Rattle.receiver_laws.proofs.Accounting.{sealed-rise, rising-accounted}
 use Rattle.receiver_laws.proofs.Headline.{all-stay, passed-sealed}
 use Rattle.receiver_laws.proofs.{Rising.have_passed, Stated.stated_fit, Stated.stated_reads_all}
 use Rattle.receiver_laws.specs.Accounted.{forged, is_among, pair_of, pairs_of, IsSubsequence}
 use Rattle.receiver_laws.specs.{Accounted.IsAccountedFor, AllLeft.ReadsAllThatPassed}
-use Rattle.receiver_laws.specs.{Headline.bytes_read, Headline.bytes_sealed, Reading.delivered}
+use Rattle.receiver_laws.specs.{Headline.bytes_read, Headline.bytes_sealed}
 use Rattle.receiver_laws.specs.Fitting.{StatedProfile.of_y18, StatedProfile.of_y24}
 use Rattle.session_audit.proofs.Lately.{no-difference, differs-nowhere, within-bytes}
 use Rattle.session_audit.proofs.Lately.{within-length, within-exact, within-itself}
@@ -24,23 +24,21 @@ use Rattle.session_lists.specs.declared.lateness.Lateness.{Lateness}
 use Rattle.session_lists.specs.declared.comparison.Difference.{Difference}
 use Rattle.rtu_frame.specs.Rules.{rtu_rules, rtu_lawful, rtu_headed}
 use Rattle.sequence_journal.specs.{Uptimes.RiseFrom, declared.numbers.TheConstants.LIMIT}
-use Rattle.session_audit.specs.{AuditedInput.AuditsInput, Clean.IsClean, Sessions.LinkKind}
+use Rattle.session_audit.specs.{Clean.IsClean, Sessions.LinkKind}
 use Rattle.session_audit.specs.Sessions.{sent_profile, got_profile, lateness_in, expected_in}
 use Rattle.session_audit.specs.Sessions.{spacing_of}
 use Rattle.session_audit.specs.Sessions.{sealed_in_session, passed_in_session, read_in, line_received, verdict_with}
-use Rattle.session_audit.specs.{Sessions.verdict_of_session, Verdicts.finding_by}
+use Rattle.session_audit.specs.{Verdicts.finding_by}
 use Rattle.session_audit.specs.Verdicts.{are_none, counts_of}
-use Rattle.session_audit.specs.declared.{session.Session.Session, verdict.Verdict.Verdict}
+use Rattle.session_audit.specs.declared.{session.Session.Session}
 use Rattle.session_audit.specs.declared.verdict.Counts.{Counts}
 use Rattle.session_audit.specs.declared.verdict.Finding.TheVariants.{Clean, Differs}
-use Rattle.std.proofs.Common.{◌≡◌, ◌≢◌, ◌∙◌, ◌≤◌, ◌&&◌, ℕ, suc, ◌==◌, Bool, true, false, List, []}
+use Rattle.std.proofs.Common.{◌≡◌, ◌≢◌, ◌∙◌, ◌≤◌, ◌&&◌, ℕ, ◌==◌, Bool, true, false, List, []}
 use Rattle.std.proofs.Common.{◌∷◌, arith}
-use Rattle.std.proofs.Common.{length, map, bytes_eq, Option, Some, None, option_map, refl, sym, ap}
-use Rattle.std.proofs.Common.{subst, ⊎_elim, Result, if◌then◌else◌}
-use Rattle.std.proofs.lemmas.Bool.{cases_Bool, and_parts, and_from, eqb-true, eq-eqb, cond-true}
-use Rattle.std.proofs.lemmas.{Bool.cond-false, Bool.cond_both, Slice.Eq.bytes_eq-Decides}
+use Rattle.std.proofs.Common.{length, Option, Some, None, option_map, refl, sym, ap}
+use Rattle.std.proofs.Common.{subst, ⊎_elim}
+use Rattle.std.proofs.lemmas.Bool.{cases_Bool, and_from, eqb-true, eq-eqb}
 use Rattle.std.proofs.lemmas.List.{length-map}
-use Rattle.{std.specs.Prelude.IfOk, tick_drive.specs.declared.end.End.End}
 use Rattle.yasir_ticks.specs.{Ticks.AreTicks, declared.tick.Tick.Tick}
 
 -- ---- verdicts

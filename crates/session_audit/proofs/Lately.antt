@@ -15,8 +15,8 @@ use Rattle.session_audit.specs.Through.{lateness_through}
 use Rattle.session_audit.specs.declared.session.Session.{Session}
 use Rattle.session_lists.specs.declared.lateness.Lateness.{Lateness}
 use Rattle.session_lists.specs.declared.lateness.Spacing.{Spacing}
-use Rattle.std.proofs.Common.{◌≡◌, ◌∙◌, ◌+◌, ◌*◌, ◌≤◌, ◌<◌, ◌^◌, ◌&&◌, ℕ, suc, List, [], ◌∷◌, max}
-use Rattle.std.proofs.Common.{Option, Some, None, option_map, refl, sym, ap, arith, subst, ⊎_elim}
+use Rattle.std.proofs.Common.{◌≡◌, ◌∙◌, ◌+◌, ◌*◌, ◌≤◌, ◌<◌, ◌&&◌, ℕ, suc, List, [], ◌∷◌}
+use Rattle.std.proofs.Common.{Option, Some, None, option_map, refl, sym, ap, arith, ⊎_elim}
 use Rattle.std.proofs.Common.{length, map, bytes_eq, nat_le, false, true, Bool}
 use Rattle.std.proofs.lemmas.Bool.{cases_Bool, and_parts, leb-true, cond-true, cond-false}
 use Rattle.std.proofs.lemmas.{Slice.Eq.bytes_eq-Decides}

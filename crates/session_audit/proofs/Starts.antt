@@ -4,8 +4,8 @@ use Rattle.frame_ending.specs.Walk.{Walker, Noted, noted, walked, notes_before}
 use Rattle.{line_rules.specs.Rules.Rules, link_format.specs.NumberedFrame.NumberedFrame}
 use Rattle.link_format.specs.Profile.{Profile}
 use Rattle.link_box.specs.Checking.{at_floor, checker, note_by, passed, passed_in}
-use Rattle.link_box.specs.Verdicts.{CheckState, Verdict, checked}
-use Rattle.link_box.specs.Verdicts.Verdict.{passed_with, refused, dropped}
+use Rattle.link_box.specs.Verdicts.{Verdict, checked}
+use Rattle.link_box.specs.Verdicts.Verdict.{passed_with}
 use Rattle.session_audit.specs.FramesOf.{frames_among}
 use Rattle.std.proofs.Common.{◌≡◌, ℕ, ◌≤◌, List, [], ◌∷◌, length, Option, Some, None, IfSome, refl}
 use Rattle.std.proofs.Common.{sym, subst, arith, ⊎_elim}

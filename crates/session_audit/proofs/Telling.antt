@@ -18,7 +18,7 @@ use Rattle.std.proofs.Common.{false, not, List, [], ◌∷◌, ◌++◌, length,
 use Rattle.std.proofs.Common.{ap, subst, arith, append_assoc, eq-eqb, nat_lt, if◌then◌else◌}
 use Rattle.std.proofs.{Math.Nat.one-le-pow, lemmas.Slice.Eq.bytes_eq-Decides}
 use Rattle.yasir_ticks.specs.Bursts.{Burst, bursts, bursts_from, with_byte}
-use Rattle.yasir_ticks.specs.Ticks.{Item, ticks_in, silent, Item.tick, Item.mark}
+use Rattle.yasir_ticks.specs.Ticks.{Item, ticks_in, silent, Item.tick}
 use Rattle.yasir_ticks.specs.declared.tick.Tick.{Tick, TheVariants.Silent, TheVariants.Byte}
 
 -- ---- numbers that rise

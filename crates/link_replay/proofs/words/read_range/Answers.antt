@@ -1,4 +1,4 @@
-use Rattle.std.proofs.Common.{◌≡◌, ◌∙◌, ℕ, List, ◌∷◌, Some, None, arith, ap, sym, drop}
+use Rattle.std.proofs.Common.{◌∙◌, Some, None, arith, ap, sym, drop}
 use Rattle.std.proofs.lemmas.Str.Pattern.{strip_prefix_char}
 use Rattle.yasir_io.proofs.OutputLemmas.{always_on_err}
 use Rattle.link_replay.proofs.Asking.{spelled-one}

@@ -1,5 +1,5 @@
 use Rattle.link_replay.proofs.Auditing.{audits-so, input-of-verdict}
-use Rattle.link_replay.specs.AuditCommand.{PrintsFinding, verdict_in, verdict_text}
+use Rattle.link_replay.specs.AuditCommand.{PrintsFinding, verdict_text}
 use Rattle.session_audit.specs.declared.verdict.Verdict.{Verdict}
 use Rattle.std.proofs.Common.{◌∙◌, refl, subst}
 use Rattle.link_replay.proofs.commands.audit.audit_keyed.Goals as goal

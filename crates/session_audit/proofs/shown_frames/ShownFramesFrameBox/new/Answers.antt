@@ -1,7 +1,7 @@
 use Rattle.{link_format.specs.Setup.setup_of, sequence_journal.specs.Journal.journal_floor}
 use Rattle.session_audit.proofs.Starting.{no-note, no-tick}
 use Rattle.session_audit.specs.FramesOf.{frames_among}
-use Rattle.std.proofs.Common.{ap, subst, sym, []}
+use Rattle.std.proofs.Common.{ap, subst, []}
 use Rattle.session_audit.proofs.shown_frames.ShownFramesFrameBox.new.Goals as goal
 
 pub returns-clause-stands : goal.returns-clause-stands
