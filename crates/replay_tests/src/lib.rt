@@ -41,4 +41,4 @@ mod texts;
 #[cfg(test)]
 mod way_lines;
 #[cfg(test)]
-mod way_outputs;
+mod way_streams;

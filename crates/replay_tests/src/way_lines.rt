@@ -1,21 +1,18 @@
-//! Tests of one way of a live line: what goes out of the transmitter, and of a receiver with a
-//! spacer behind it, for a few ticks.
+//! A test of one way of a live line: what goes out of a receiver with a spacer behind it, for a few
+//! ticks.
 use check_receiver::Checker;
 use device_model::RtuDevice;
 use line_commands::Streams;
 use line_spacer::Spacer;
 use link_box::LinkBox;
 use link_format::{Dir, HmacSha1};
-use live_line::{GuardedBox, PlainBox, Way, WayLines};
+use live_line::{GuardedBox, Way, WayLines};
 use rtu_frame::Rtu;
-use seal_transmitter::Sealer;
 use sequence_journal::{Journal, slot_of};
 use std::alloc::Global;
 use std::test::Fail;
 use yasir_io::{MemSink, MemSource, Plan, SteadySlots};
 use yasir_ticks::Tick;
-
-type Transmitter = Sealer<Rtu, HmacSha1, 2>;
 
 type Receiver = Checker<Rtu, HmacSha1, 2, 18>;
 
@@ -26,29 +23,6 @@ fn outside(alloc: Global) -> Result<Streams<MemSource<'static>, MemSink, MemSink
         out: MemSink::with_room(alloc, 100, 512, Plan::new())?,
         log: MemSink::with_room(alloc, 100, 512, Plan::new())?,
     })
-}
-
-// What goes out of the transmitter for a byte and a silent tick.
-fn sent_out(alloc: Global) -> Result<MemSink, Fail> {
-    let served = Transmitter::link(Dir::Ab);
-    let mut disk = SteadySlots::new(slot_of(0, &served), [0; 24]);
-    let journal = Journal::load(&mut disk, &served)?;
-    let plain = PlainBox::<Transmitter>::new(&[0; 16], Dir::Ab, &journal);
-    let mut lines = WayLines::new(plain, journal, 15);
-    let mut streams = outside(alloc)?;
-    lines.take(Tick::Byte(0x41));
-    if lines.has_room() {
-        lines.take(Tick::Silent);
-    }
-    let _ = lines.hand_on(Way::Outgoing, &mut streams, &mut disk);
-    let Streams { out, .. } = streams;
-    Ok(out)
-}
-
-#[test]
-fn the_transmitter_forwards_the_ticks_of_its_way(rt: HostRuntime) -> Result<(), Fail> {
-    assert_eq!(rt; sent_out(rt.alloc())?.held(), b">+41\n>-1\n".as_slice());
-    Ok(())
 }
 
 // What goes out of the receiver and the spacer behind it for a byte and a silent tick.
