@@ -27,7 +27,7 @@ WANTED = {
     "live": ["live seal P DIR KEY JOURNAL", "live check P DIR KEY JOURNAL"],
     "space": ["space P"],
     "replay": ["replay P DIR KEY"],
-    "audit": ["audit P DIR KEY F G"],
+    "audit": ["audit P DIR KEY F G [LEAST..MOST] [spaced]"],
     "duplex": ["duplex P DIR KEY"],
     "two_wire": ["two_wire P DIR SIDE WINDOW PAUSE KEY"],
     "trial": ["trial P SEED COUNT"],

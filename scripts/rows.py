@@ -428,7 +428,7 @@ two_wire rtu24 ba answers 28 4 key|two_wire rtu ba answers 023 4 key|two_wire rt
 
 # The words of each command, which are said of words that begin with its name and fit no command. For other words the commands are said.
 USAGES = ("read P", "init P DIR JOURNAL", "seal P DIR KEY JOURNAL", "check P DIR KEY JOURNAL", "live seal P DIR KEY JOURNAL",
-          "live check P DIR KEY JOURNAL", "space P", "replay P DIR KEY", "audit P DIR KEY F G", "duplex P DIR KEY",
+          "live check P DIR KEY JOURNAL", "space P", "replay P DIR KEY", "audit P DIR KEY F G [LEAST..MOST] [spaced]", "duplex P DIR KEY",
           "two_wire P DIR SIDE WINDOW PAUSE KEY", "trial P SEED COUNT", "poll P SEED COUNT", "vectors", "help", "version")
 COMMANDS = "read init seal check live space replay audit duplex two_wire trial poll vectors help version"
 
