@@ -593,7 +593,7 @@ def words_of(session, key_file):
 def wanted_of(session):
     """What the model says of a session: the text and the status. Words that are none of an audit are refused."""
     if session.late is None:
-        return "fault: usage\n", 2
+        return "fault: usage\nusage: link_replay audit P DIR KEY F G [LEAST..MOST] [spaced]\n", 2
     return model.audit(session.proto, session.key, session.direction, session.floors, *lists_of(session), session.profile, session.late)
 
 
