@@ -62,7 +62,9 @@ WAY = """== Way %s: the frames that a device reads (`read %s`)
 Frames that are read: %d. Sealed: %d. Read behind the receiver, over an untouched link: %d.
 %s
 """
-COUNTED = "counted: overlaps 0, errors 0, breaks 0, control lines 0\n"
+# The bytes of each frame follow each other at once.
+APART = "distances inside bursts: shortest 1, usual 1\n"
+COUNTED = "counted: overlaps 0, errors 0, breaks 0, control lines 0\n" + APART
 PICTURE = "A picture of it, for a browser: capture.html (docs/TIMELINE.md says what it shows)\n"
 SEALED = "    sealed          forwarded, with its number and tag behind it"
 FORM = "    unsealed form   no frame: forwarded, with nothing behind it"
@@ -101,7 +103,7 @@ GATEWAY = way("a", "rtu", ["read at %d %s" % (tick, REPLY) for tick in range(0, 
               ["sealed 1 at 0 len 85", "unsealed at 89 early", "sealed 2 at 178 len 85", "unsealed at 267 early", "sealed 3 at 356 len 85"],
               [SEALED, EARLY], (5, 3, 3),
               CLOSE + "With FRAMES=1 the silences aren't those of the line, and this says nothing about it.\n")
-REFUSED = ("counted: overlaps 4, errors 0, breaks 0, control lines 0\nfault: way a byte 85 overlap\n"
+REFUSED = ("counted: overlaps 4, errors 0, breaks 0, control lines 0\n" + APART + "fault: way a byte 85 overlap\n"
            "It is refused there, and what comes before that place is shown (docs/LINE_CAPTURE.md).\nIf each of its records is a frame, say so: FRAMES=1.\n")
 FIRST = way("a", "rtu", ["read at 0 " + REPLY], ["sealed 1 at 0 len 85"], [SEALED], (1, 1, 1))
 REQUESTS = way("a", "rtu", ["read at 0 01030000000ac5cd", "read at 131 01034021", "read at 156 01030000000ac5cd"],

@@ -18,3 +18,4 @@ pub mod GivenFiles
 pub mod EachPlaced
 pub mod TakenAgain
 pub mod LawOfGiven
+pub mod Apart

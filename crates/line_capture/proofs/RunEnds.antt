@@ -8,6 +8,8 @@ use Rattle.command_ends.specs.declared.status.Status.TheVariants as statuses
 use Rattle.line_capture.specs.{Captures.Collects, Formats.Format, Inputs.Told, Outcomes.status_in}
 use Rattle.line_capture.specs.UsageLines.{capture_fault_text}
 use Rattle.line_capture.specs.Placed.{CountsOverlaps}
+use Rattle.line_capture.specs.Distances.{CountsDistances, both_ways}
+use Rattle.line_capture.specs.declared.distances.Distances.{Distances}
 use Rattle.line_capture.specs.Takes.{CaptureHeld, stop_outcome, read_outcome, or_else, outcome_of}
 use Rattle.line_capture.specs.Takes.{WritesTaken, TakesRead, TakesCapture}
 use Rattle.line_capture.specs.Takes.{HasOutcome}
@@ -27,7 +29,7 @@ use Rattle.line_capture.specs.declared.outcome.Outcome.TheVariants.{Ended, BadCa
 use Rattle.line_capture.specs.declared.outcome.Outcome.TheVariants as outcomes
 use Rattle.line_capture.specs.declared.placing.{LineEnd.LineEnd, LineStop.LineStop}
 use Rattle.line_capture.specs.declared.placing.LineStop.TheVariants as stops
-use Rattle.line_capture.proofs.Written.{lines_front, all_got}
+use Rattle.line_capture.proofs.Written.{lines_front, all_got, none_got}
 use Rattle.line_capture.specs.declared.take.Taking.{Taking}
 
 -- ---- the outcome of what was read and placed
@@ -79,6 +81,10 @@ no_text words told (Ended (statuses.Unclean verdict)) none = none
 no_text words told (Ended status) none = cc
 no_text words told outcome none = cc
 
+-- no distances
+abbrev none_found : Distances
+none_found = record { one = 0; two = 0; three = 0; four = 0 }
+
 module _ (taking : Taking) (k : Kept) (read : ReadEnd) (end : CaptureEnd) (before now : CaptureHeld)
     (a b : LineEnd)
     (lines : WrittenLines (timing_for taking k) taking.ways k before.out now.out a b)
@@ -86,7 +92,11 @@ module _ (taking : Taking) (k : Kept) (read : ReadEnd) (end : CaptureEnd) (befor
     (overlap_a : CountsOverlaps (timing_for taking k) k.a.items overlaps_a)
     (overlap_b : CountsOverlaps (timing_for taking k) k.b.items overlaps_b)
     (sum : overlaps ≡ min (overlaps_a + overlaps_b) (2 ^ 64 - 1))
-    (log : now.log ≡ append_known before.log (taken_lines taking.ways overlaps end k)) where
+    (distances_a distances_b found : Distances)
+    (distance_a : CountsDistances (timing_for taking k) k.a.items distances_a)
+    (distance_b : CountsDistances (timing_for taking k) k.b.items distances_b)
+    (both : found ≡ both_ways distances_a distances_b)
+    (log : now.log ≡ append_known before.log (taken_lines taking.ways overlaps found end k)) where
   pub ends_taken : (result : Outcome) → HasOutcome (outcome_of read end a b) result
       → WritesTaken taking k read end before now result
   ends_taken result (same is) = written (record {
@@ -97,22 +107,42 @@ module _ (taking : Taking) (k : Kept) (read : ReadEnd) (end : CaptureEnd) (befor
     overlaps_b = overlaps_b;
     overlap_a = overlap_a;
     overlap_b = overlap_b;
-    log = log ∙ ap (λ n. append_known before.log (taken_lines taking.ways n end k)) sum;
+    distances_a = distances_a;
+    distances_b = distances_b;
+    distance_a = distance_a;
+    distance_b = distance_b;
+    log = log ∙ ap (λ n. append_known before.log (taken_lines taking.ways n found end k)) sum
+        ∙ ap (λ d. append_known before.log (taken_lines taking.ways
+        (min (overlaps_a + overlaps_b) (2 ^ 64 - 1)) d end k)) both;
     outcome_is = is;
   })
   ends_taken result (flush_failed done is) = failed is (record {
     lines = lines_front (timing_for taking k) taking.ways k before.out now.out a b lines;
     overlaps = overlaps;
+    found = found;
     log = all_got before.log now.log _ log;
   })
+
+-- A run whose lines weren't all written ends with WriteFault, and nothing is in the log.
+pub lines_fail : (taking : Taking) (k : Kept) (read : ReadEnd) (end : CaptureEnd)
+    (before now : CaptureHeld) (t : Timing) → t ≡ timing_for taking k
+    → WrittenFront t taking.ways k before.out now.out → now.log ≡ before.log
+    → WritesTaken taking k read end before now (Ended statuses.WriteFault)
+lines_fail taking k read end before now t timing lines log = failed refl (record {
+  lines = subst (λ u. WrittenFront u taking.ways k before.out now.out) timing lines;
+  overlaps = 0;
+  found = none_found;
+  log = subst (λ l. GotPrefix before.log l (taken_lines taking.ways 0 none_found end k)) (sym log)
+      (none_got before.log (taken_lines taking.ways 0 none_found end k));
+})
 
 -- How a run ends after both lines have ended, from the clauses of the calls that end them.
 module _ (taking : Taking) (k : Kept) (read : ReadEnd) (end : CaptureEnd) (before now : CaptureHeld)
     (t : Timing) (timing : t ≡ timing_for taking k) (a b : LineEnd) (out_now : Option (List ℕ))
     (lines : WrittenLines t taking.ways k before.out out_now a b)
-    (overlaps : ℕ) (log_mid : Option (List ℕ)) (log_same : log_mid ≡ before.log)
+    (overlaps : ℕ) (found : Distances) (log_mid : Option (List ℕ)) (log_same : log_mid ≡ before.log)
     (text items : List ℕ) (text_is : text ≡ items)
-    (items_are : items ≡ taken_lines taking.ways overlaps end k) where
+    (items_are : items ≡ taken_lines taking.ways overlaps found end k) where
   lines_are : WrittenLines (timing_for taking k) taking.ways k before.out out_now a b
   lines_are = subst (λ u. WrittenLines u taking.ways k before.out out_now a b) timing lines
 
@@ -122,23 +152,30 @@ module _ (taking : Taking) (k : Kept) (read : ReadEnd) (end : CaptureEnd) (befor
     lines = subst (λ l. WrittenFront (timing_for taking k) taking.ways k before.out l) (sym out)
         (lines_front (timing_for taking k) taking.ways k before.out out_now a b lines_are);
     overlaps = overlaps;
+    found = found;
     log = subst (λ l. GotPrefix before.log now.log l) (text_is ∙ items_are)
         (subst (λ l. GotPrefix l now.log text) log_same got);
   })
 
-  pub log_goes : (xs ys : List CaptureByte) (na nb : ℕ) (log_now : Option (List ℕ))
+  pub log_goes : (xs ys : List CaptureByte) (na nb : ℕ) (da db : Distances)
+      (log_now : Option (List ℕ))
       (result outcome : Outcome) → xs ≡ k.a.items → ys ≡ k.b.items → CountsOverlaps t xs na
       → CountsOverlaps t ys nb → overlaps ≡ min (na + nb) (2 ^ 64 - 1)
+      → CountsDistances t xs da → CountsDistances t ys db → found ≡ both_ways da db
       → log_now ≡ append_known log_mid text → now.out ≡ out_now → now.log ≡ log_now
       → outcome ≡ outcome_of read end a b → HasOutcome outcome result
       → WritesTaken taking k read end before now result
-  log_goes xs ys na nb log_now result outcome xs_are ys_are count_a count_b sum got out log is has =
+  log_goes xs ys na nb da db log_now result outcome xs_are ys_are count_a count_b sum apart_a
+      apart_b both got out log is has =
       ends_taken taking k read end before now a b
       (subst (λ l. WrittenLines (timing_for taking k) taking.ways k before.out l a b) (sym out)
       lines_are) na nb overlaps
       (subst (λ u. CountsOverlaps u k.a.items na) timing (subst (λ l. CountsOverlaps t l na) xs_are count_a))
       (subst (λ u. CountsOverlaps u k.b.items nb) timing (subst (λ l. CountsOverlaps t l nb) ys_are count_b))
-      sum
+      sum da db found
+      (subst (λ u. CountsDistances u k.a.items da) timing (subst (λ l. CountsDistances t l da) xs_are apart_a))
+      (subst (λ u. CountsDistances u k.b.items db) timing (subst (λ l. CountsDistances t l db) ys_are apart_b))
+      both
       (log ∙ got ∙ ap (λ l. append_known l text) log_same
       ∙ ap (append_known before.log) (text_is ∙ items_are)) result
       (subst (λ o. HasOutcome o result) is has)

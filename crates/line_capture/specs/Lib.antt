@@ -3,6 +3,7 @@ pub mod Formats
 pub mod Captures
 pub mod Inputs
 pub mod Placed
+pub mod Distances
 pub mod Outcomes
 pub mod Takes
 pub mod Records

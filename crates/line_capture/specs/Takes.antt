@@ -16,6 +16,7 @@ use Rattle.line_stamps.specs.declared.timing.Timing.{Timing}
 use Rattle.line_stamps.specs.Places.{line_of_places}
 use Rattle.command_ends.specs.declared.status.Status.TheVariants as statuses
 use Rattle.line_capture.specs.Captures.{Collects, takes}
+use Rattle.line_capture.specs.Distances.{CountsDistances, both_ways, distance_lines}
 use Rattle.line_capture.specs.Formats.{Format}
 use Rattle.line_capture.specs.Inputs.{Told, IsRead}
 use Rattle.line_capture.specs.Placed.{PlacedIsFront, PlacedStopsAt, CountsOverlaps}
@@ -23,6 +24,7 @@ use Rattle.line_capture.specs.declared.bad_capture.BadCapture.TheVariants.{ByteE
 use Rattle.line_capture.specs.declared.collect.CaptureEnd.{CaptureEnd}
 use Rattle.line_capture.specs.declared.collect.CaptureEnd.TheVariants as ends
 use Rattle.line_capture.specs.declared.collect.Kept.{Kept}
+use Rattle.line_capture.specs.declared.distances.Distances.{Distances}
 use Rattle.line_capture.specs.declared.input.ReadEnd.{ReadEnd}
 use Rattle.line_capture.specs.declared.input.ReadEnd.TheVariants as reads
 use Rattle.line_capture.specs.declared.outcome.Outcome.{Outcome}
@@ -177,9 +179,11 @@ empty_line way counts = codes "warning: no byte on way " ++ way ++ codes ": way 
 abbrev pub empty_warning : Bool → List ℕ → ℕ → ℕ × ℕ → List ℕ
 empty_warning taken way own counts = if taken && own == 0 then empty_line way counts else []
 
--- the lines that the log gets after all ticks: what was counted, and the warnings of both ways
-abbrev pub taken_lines : Ways → ℕ → CaptureEnd → Kept → List ℕ
-taken_lines ways overlaps end kept = counts_line overlaps end kept
+-- the lines that the log gets after all ticks: what was counted, how far apart the bytes of bursts
+-- are, and the warnings of both ways
+abbrev pub taken_lines : Ways → ℕ → Distances → CaptureEnd → Kept → List ℕ
+taken_lines ways overlaps found end kept = counts_line overlaps end kept
+    ++ distance_lines found
     ++ empty_warning (takes ways way.A) (codes "a") (length kept.a.items) (way_counts ways kept)
     ++ empty_warning (takes ways way.B) (codes "b") (length kept.b.items) (way_counts ways kept)
 
@@ -205,8 +209,13 @@ pub record WritesAll (taking : Taking) (kept : Kept) (read : ReadEnd) (end : Cap
   pub overlaps_b : ℕ
   pub overlap_a : CountsOverlaps (timing_for taking kept) kept.a.items overlaps_a
   pub overlap_b : CountsOverlaps (timing_for taking kept) kept.b.items overlaps_b
+  pub distances_a : Distances
+  pub distances_b : Distances
+  pub distance_a : CountsDistances (timing_for taking kept) kept.a.items distances_a
+  pub distance_b : CountsDistances (timing_for taking kept) kept.b.items distances_b
   pub log : now.log ≡ append_known before.log
-      (taken_lines taking.ways (min (overlaps_a + overlaps_b) (2 ^ 64 - 1)) end kept)
+      (taken_lines taking.ways (min (overlaps_a + overlaps_b) (2 ^ 64 - 1))
+      (both_ways distances_a distances_b) end kept)
   pub outcome_is : outcome ≡ outcome_of read end a_end b_end
 
 -- Holds if a write or a flush failed, after a front of the lines and of what was counted was
@@ -215,7 +224,8 @@ pub record WritesPart (taking : Taking) (kept : Kept) (end : CaptureEnd) (before
     : Type 0 where
   pub lines : WrittenFront (timing_for taking kept) taking.ways kept before.out now.out
   pub overlaps : ℕ
-  pub log : GotPrefix before.log now.log (taken_lines taking.ways overlaps end kept)
+  pub found : Distances
+  pub log : GotPrefix before.log now.log (taken_lines taking.ways overlaps found end kept)
 
 -- Holds if the lines and what was counted were written, or a front of them before a write or a
 -- flush failed.

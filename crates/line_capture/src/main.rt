@@ -7,6 +7,7 @@
 mod about;
 mod bad_capture;
 mod collect;
+mod distances;
 mod give;
 mod input;
 mod laws;
@@ -24,6 +25,7 @@ mod words;
 pub use bad_capture::BadCapture;
 pub use collect::{CaptureEnd, Collected, Kept, collect};
 pub use command_ends::NOT_GIVEN;
+pub use distances::{Distances, count_distances};
 pub use give::{Giving, give};
 pub use input::{Input, MAX_INPUT_BYTES, ReadEnd, read_input};
 pub use laws::what_was_given_is_taken;

@@ -201,7 +201,7 @@ pub fn write_line<O: Sink, L: Sink>(
 
 // Takes the next byte, so that it is counted if it overlaps the one before it. Returns whether it
 // is neither early nor late.
-fn count_next(placer: &mut Placer, byte: CaptureByte) -> bool
+pub(crate) fn count_next(placer: &mut Placer, byte: CaptureByte) -> bool
     ensures { (cs : List CaptureByte) → PlacingHasTaken placer.old cs
         → CountsNext placer.old placer.new cs byte result }
 {

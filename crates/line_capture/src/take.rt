@@ -21,6 +21,7 @@ ghost use Rattle.line_capture.specs.declared.outcome.Outcome.{Outcome};
 
 use crate::bad_capture::BadCapture;
 use crate::collect::{CaptureEnd, Collected, Kept, collect};
+use crate::distances::{Distances, count_distances};
 use crate::input::{Input, ReadEnd, read_input};
 use crate::outcome::Outcome;
 use crate::placing::{LineEnd, LineStop, count_overlaps, write_line};
@@ -226,14 +227,17 @@ fn empty_warning(taken: bool, way: &[u8], own: usize, counts: (u64, u64)) -> Lin
     Line::new()
 }
 
-// Returns the lines with what was counted, and the warnings of ways that have no byte.
-fn taken_lines(ways: Ways, overlaps: u64, end: CaptureEnd, kept: &Kept) -> Line
-    ensures { result.items ≡ taken_lines ways overlaps end kept.now }
+// Returns the lines with what was counted, how far apart bytes are, and the warnings of ways that
+// have no byte.
+fn taken_lines(ways: Ways, overlaps: u64, found: &Distances, end: CaptureEnd, kept: &Kept) -> Line
+    ensures { result.items ≡ taken_lines ways overlaps found.now end kept.now }
 {
     let counts = way_counts(ways, kept);
     let a = empty_warning(ways.takes(Way::A), b"a", kept.a.len(), counts);
     let b = empty_warning(ways.takes(Way::B), b"b", kept.b.len(), counts);
+    let apart = found.lines();
     let mut lines = counts_line(overlaps, end, kept);
+    lines.try_extend_from_slice(apart.as_slice()).unwrap();
     lines.try_extend_from_slice(a.as_slice()).unwrap();
     lines.try_extend_from_slice(b.as_slice()).unwrap();
     lines
@@ -287,7 +291,10 @@ fn write_taken<O: Sink, L: Sink>(
     let overlaps_a = count_overlaps(timing, first);
     let overlaps_b = count_overlaps(timing, second);
     let overlaps = overlaps_a.saturating_add(overlaps_b);
-    let lines = taken_lines(taking.ways, overlaps, collected.end, kept);
+    let a_found = count_distances(timing, first);
+    let b_found = count_distances(timing, second);
+    let found = a_found.with(&b_found);
+    let lines = taken_lines(taking.ways, overlaps, &found, collected.end, kept);
     match write_all(log, lines.as_slice()) {
         Ok(()) => {}
         Err(Failed) => return Outcome::Ended(Status::WriteFault),

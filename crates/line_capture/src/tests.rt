@@ -68,8 +68,9 @@ const GIVEN: [u8; 182] = [
     0x00, 0x01, 0x83, 0x02, 0xC0, 0xF1,
 ];
 
-/// The line of a run that counted nothing.
-const NO_COUNTS: &[u8] = b"counted: overlaps 0, errors 0, breaks 0, control lines 0\n";
+/// The lines of a run that counted nothing, over frames whose bytes follow each other at once.
+const NO_COUNTS: &[u8] = b"counted: overlaps 0, errors 0, breaks 0, control lines 0\n\
+distances inside bursts: shortest 1, usual 1\n";
 
 /// The first rows of `examples/captures/modbus.logic2.csv`, and a row of the other analyzer.
 const TABLE: &[u8] = b"name,type,start_time,duration,data,error
@@ -192,18 +193,21 @@ const EMPTY_WAYS: [(&str, &[u8], &[u8]); 3] = [
         "take text 9600x11 b",
         b"",
         b"counted: overlaps 0, errors 0, breaks 0, control lines 0\n\
+        distances inside bursts: none\n\
         warning: no byte on way b: way a has 16, way b 0\n",
     ),
     (
         "take text 9600x11 both",
         b"+01030000000ac5cd\n-92\n+0103000a0002e409\n%\n",
         b"counted: overlaps 0, errors 0, breaks 0, control lines 0\n\
+        distances inside bursts: shortest 1, usual 1\n\
         warning: no byte on way b: way a has 16, way b 0\n",
     ),
     (
         "take text 9600x11 a",
         b"+01030000000ac5cd\n-92\n+0103000a0002e409\n",
-        b"counted: overlaps 0, errors 0, breaks 0, control lines 0\n",
+        b"counted: overlaps 0, errors 0, breaks 0, control lines 0\n\
+        distances inside bursts: shortest 1, usual 1\n",
     ),
 ];
 
@@ -216,9 +220,50 @@ fn a_way_without_a_byte_is_a_warning(rt: HostRuntime) -> Result<(), Fail> {
     }
     let nothing = run_words(alloc, "take text 9600x11 both", b"# none\n", 0, 0)?;
     let both = b"counted: overlaps 0, errors 0, breaks 0, control lines 0\n\
+        distances inside bursts: none\n\
         warning: no byte on way a: way a has 0, way b 0\n\
         warning: no byte on way b: way a has 0, way b 0\n";
     ended(&rt, &nothing, DONE, b"%\n", both);
+    Ok(())
+}
+
+/// Single bytes, their ticks, and what the log says of their distances. A character takes
+/// 1.145833 ms.
+const DISTANCES: [(&[u8], &[u8], &[u8]); 4] = [
+    (
+        b"0 01\n0.002291667 02\n0.003437500 03\n0.005729167 04\n",
+        b"+01\n-1\n+0203\n-1\n+04\n",
+        b"counted: overlaps 0, errors 0, breaks 0, control lines 0\n\
+        distances inside bursts: shortest 1, usual 2\n\
+        warning: the usual distance isn't 1: is the rate right?\n",
+    ),
+    (
+        b"0 01\n0.003437500 02\n0.008020833 03\n",
+        b"+01\n-2\n+02\n-3\n+03\n",
+        b"counted: overlaps 0, errors 0, breaks 0, control lines 0\n\
+        distances inside bursts: shortest 3, usual 3\n\
+        warning: the usual distance isn't 1: is the rate right?\n",
+    ),
+    (
+        b"0 01\n0.002291667 02\n0.003437500 03\n",
+        b"+01\n-1\n+0203\n",
+        b"counted: overlaps 0, errors 0, breaks 0, control lines 0\n\
+        distances inside bursts: shortest 1, usual 1\n",
+    ),
+    (
+        b"0 01\n0.005729167 02\n",
+        b"+01\n-4\n+02\n",
+        b"counted: overlaps 0, errors 0, breaks 0, control lines 0\n\
+        distances inside bursts: none\n",
+    ),
+];
+
+#[test]
+fn distances_are_told(rt: HostRuntime) -> Result<(), Fail> {
+    for (records, ticks, log) in &DISTANCES {
+        let ran = run_words(rt.alloc(), "take text 9600x11 a", records, 0, 0)?;
+        ended(&rt, &ran, DONE, ticks, log);
+    }
     Ok(())
 }
 
@@ -231,11 +276,13 @@ fn exports_are_taken(rt: HostRuntime) -> Result<(), Fail> {
     ended(&rt, &ran, DONE, EXPORT_TICKS, NO_COUNTS);
     let ran = run_words(alloc, "take sigrok 9600x11 a", TABLE, 0, 0)?;
     let row = b"counted: overlaps 0, errors 0, breaks 0, control lines 0\n\
+        distances inside bursts: none\n\
         warning: no byte on way a: way a has 0, way b 0\nfault: line 1 row\n";
     assert_eq!(rt; ran.log.held(), row.as_slice());
     let short = &TRACE[..TRACE.len() - 3];
     let ran = run_words(alloc, "take sigrok 9600x11 a", short, 0, 0)?;
-    let end = b"counted: overlaps 0, errors 0, breaks 0, control lines 0\nfault: line 8 end\n";
+    let end = b"counted: overlaps 0, errors 0, breaks 0, control lines 0\n\
+        distances inside bursts: shortest 1, usual 1\nfault: line 8 end\n";
     assert_eq!(rt; ran.out.held(), b"+0103\n".as_slice());
     assert_eq!(rt; ran.log.held(), end.as_slice());
     Ok(())
@@ -250,8 +297,8 @@ fn errors_behind_their_bytes(rt: HostRuntime) -> Result<(), Fail> {
     assert_eq!(rt; ran.out.held(), b"+5a\n".as_slice());
     let ran = run_words(alloc, "take sigrok 9600x11 a", SPURIOUS, 0, 0)?;
     assert_eq!(rt; ran.out.held(), b"+0103\n".as_slice());
-    let error =
-        b"counted: overlaps 0, errors 1, breaks 0, control lines 0\nfault: byte 416 error\n";
+    let error = b"counted: overlaps 0, errors 1, breaks 0, control lines 0\n\
+        distances inside bursts: shortest 1, usual 1\nfault: byte 416 error\n";
     assert_eq!(rt; ran.log.held(), error.as_slice());
     Ok(())
 }
@@ -267,7 +314,7 @@ fn records_that_overlap(rt: HostRuntime) -> Result<(), Fail> {
     };
     let ran = run_words(alloc, "take text 9600x11 a", close, 0, 0)?;
     let log = b"counted: overlaps 1, errors 0, breaks 0, control lines 0\n\
-fault: way a byte 2 overlap\n";
+distances inside bursts: shortest 1, usual 1\nfault: way a byte 2 overlap\n";
     ended(&rt, &ran, overlap, b"+0102\n", log);
     let ran = run_words(alloc, "take text 9600x11 a frames", close, 0, 0)?;
     ended(&rt, &ran, DONE, b"+0102\n-4\n+0304\n", NO_COUNTS);
@@ -278,7 +325,8 @@ fault: way a byte 2 overlap\n";
 fn captures_that_are_refused(rt: HostRuntime) -> Result<(), Fail> {
     let alloc = rt.alloc();
     let ran = run_words(alloc, "take text 9600x11 a", b"1.0 0102\n2.0 010\n", 0, 0)?;
-    let odd = b"counted: overlaps 0, errors 0, breaks 0, control lines 0\nfault: line 2 odd\n";
+    let odd = b"counted: overlaps 0, errors 0, breaks 0, control lines 0\n\
+        distances inside bursts: shortest 1, usual 1\nfault: line 2 odd\n";
     assert_eq!(rt; ran.outcome.exit_status(), 4);
     // the byte before the missing digit is kept
     assert_eq!(rt; ran.out.held(), b"+0102\n-871\n+01\n".as_slice());
@@ -287,7 +335,8 @@ fn captures_that_are_refused(rt: HostRuntime) -> Result<(), Fail> {
     assert_eq!(rt; ran.outcome.exit_status(), 4);
     assert_eq!(rt; ran.out.held(), POLL_TICKS);
     let ran = run_words(alloc, "take pcap 9600x11 a", &ERRORS, 0, 0)?;
-    let error = b"counted: overlaps 0, errors 1, breaks 0, control lines 0\nfault: byte 82 error\n";
+    let error = b"counted: overlaps 0, errors 1, breaks 0, control lines 0\n\
+        distances inside bursts: shortest 1, usual 1\nfault: byte 82 error\n";
     assert_eq!(rt; ran.outcome.exit_status(), 4);
     assert_eq!(rt; ran.out.held(), b"+010300\n".as_slice());
     assert_eq!(rt; ran.log.held(), error.as_slice());
