@@ -55,8 +55,6 @@ mod reader;
 mod row;
 mod row_fault;
 mod row_reader;
-#[cfg(test)]
-mod row_tests;
 mod sigrok;
 mod text;
 mod writer;

@@ -38,8 +38,6 @@ mod reasons;
 mod status;
 mod text;
 mod waiting;
-#[cfg(test)]
-mod word_tests;
 
 pub use ending::{flush_both, print_text, status_of};
 pub use ends::Ends;

@@ -34,10 +34,6 @@ mod four_bytes;
 mod head;
 mod line_rules;
 mod outlet;
-#[cfg(test)]
-mod spoiler_tests;
-#[cfg(test)]
-mod tests;
 
 pub use crc_bits::crc_by_bits;
 pub use crc_table::CrcTable;

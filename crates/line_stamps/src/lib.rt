@@ -31,8 +31,6 @@ mod rate;
 mod rate_word;
 mod rounding;
 mod seen;
-#[cfg(test)]
-mod tests;
 mod timing;
 
 pub use byte_walk::walks_in_pieces;

@@ -1,5 +1,5 @@
-//! Tests of what lies below the boxes and beside them: tick text, frames, tags, the ring of a delay,
-//! bursts, models of devices, and the spacer.
+//! Tests of what lies below the boxes and beside them: tick text, CRCs, frames, tags, the ring of a
+//! delay, bursts, models of devices, and the spacer.
 //!
 //! They are a crate of their own, since a crate with tests is proved twice.
 #![tactic(auto)]
@@ -8,6 +8,8 @@
 mod burst_turns;
 #[cfg(test)]
 mod bursts;
+#[cfg(test)]
+mod crcs;
 #[cfg(test)]
 mod devices;
 #[cfg(test)]
@@ -23,7 +25,13 @@ mod owed_answers;
 #[cfg(test)]
 mod rings;
 #[cfg(test)]
+mod rtu_frames;
+#[cfg(test)]
 mod spacers;
+#[cfg(test)]
+mod spoiler;
+#[cfg(test)]
+mod tables;
 #[cfg(test)]
 mod tags;
 #[cfg(test)]

@@ -1,5 +1,7 @@
-//! Tests of HMAC against known answers.
-use link_format::{Dir, HmacSha1, HmacSha256, Mac, TagBytes};
+//! Tests of HMAC against known answers, and of a trailer.
+use arrayvec::ArrayVec;
+use link_format::{Dir, HmacSha1, HmacSha256, Mac, TagBytes, Trailer};
+use yasir_ticks::Tick;
 
 // HMAC-SHA-1, as Python's `hmac` computes it. A row has the length of a key and two MACs: that of
 // the 150 bytes whose byte i is 5 i + 1 (modulo 256), and that of the empty text. Byte i of a key
@@ -129,4 +131,19 @@ fn directions_have_numbers(rt: HostRuntime) {
     for (dir, number) in [(Dir::Ab, 0), (Dir::Ba, 1)] {
         assert_eq!(rt; dir.number(), number);
     }
+}
+
+#[test]
+fn a_word_of_four_bytes_stands_before_a_tag_of_sixteen(rt: HostRuntime) {
+    let tag = ArrayVec::from([0xee; 16]);
+    let mut trailer: Trailer<4> = Trailer::none();
+    assert_eq!(rt; trailer.next_tick(), Tick::Silent);
+    trailer.load(0x0102030405, &tag);
+    for byte in [2, 3, 4, 5] {
+        assert_eq!(rt; trailer.next_tick(), Tick::Byte(byte));
+    }
+    for _ in 0..16 {
+        assert_eq!(rt; trailer.next_tick(), Tick::Byte(0xee));
+    }
+    assert_eq!(rt; trailer.next_tick(), Tick::Silent);
 }

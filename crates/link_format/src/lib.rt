@@ -31,8 +31,6 @@ mod macs;
 mod sha1_block;
 mod sha256_block;
 mod tag;
-#[cfg(test)]
-mod tests;
 mod trailer;
 
 pub use block_hasher::{BlockHasher, BlockStart};

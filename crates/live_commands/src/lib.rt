@@ -9,8 +9,6 @@
 #![tactic(auto)]
 
 mod ahead_lines;
-#[cfg(test)]
-mod box_tests;
 mod command;
 mod filter;
 mod live_box;

@@ -19,6 +19,8 @@ mod fast_paths;
 #[cfg(test)]
 mod fresh;
 #[cfg(test)]
+mod live_boxes;
+#[cfg(test)]
 mod live_outputs;
 #[cfg(test)]
 mod order;

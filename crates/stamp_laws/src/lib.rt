@@ -7,8 +7,6 @@
 #![tactic(auto)]
 
 mod device_laws;
-#[cfg(test)]
-mod tests;
 
 pub use device_laws::{
     bytes_tell_what_hunters_read, records_tell_what_is_read, times_tell_what_is_read,

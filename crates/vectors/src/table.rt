@@ -268,23 +268,3 @@ pub fn user_data_of_frames()
     ensures { (text user : List ℕ) → AreBytes text
         → (user_of text ≡ Some user) ↔ ((header : Header) × IsFrameOf header user text) }
 {}
-
-#[cfg(test)]
-mod tests {
-    use super::*;
-
-    #[test]
-    fn known_tables(rt: HostRuntime) {
-        assert_eq!(rt; crc_table(), (4, Ok(())));
-        assert_eq!(rt; hmac_table(), (7, Ok(())));
-        assert_eq!(rt; frames_table(), (7, Ok(())));
-        assert_eq!(rt; user_table(), (2, Ok(())));
-        let right = Case::new(CaseKind::Crc16, b"", b"\x01\x03", b"\x21\x40");
-        let wrong = Case::new(CaseKind::Crc16, b"", b"\x01\x03", b"\x21\x41");
-        assert_eq!(rt; run_table(&[right, wrong]), Err(Miss { row: 2 }));
-
-        // a text that isn't a frame has no user data, which isn't the same as empty user data
-        let none = Case::new(CaseKind::DnpUser, b"", b"\x05\x64", b"");
-        assert_eq!(rt; run_table(&[none]), Err(Miss { row: 1 }));
-    }
-}

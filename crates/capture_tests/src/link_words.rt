@@ -1,6 +1,6 @@
 //! The words of each link, and the bytes that name it in a journal (`docs/USAGE.md`,
 //! `docs/JOURNAL.md`).
-use crate::{Profile, Proto, Usage, link_of, link_word, read_dir, read_link};
+use command_ends::{Profile, Proto, Usage, link_of, link_word, read_dir, read_link};
 use link_format::Dir;
 use sequence_journal::LinkId;
 use std::test::Fail;

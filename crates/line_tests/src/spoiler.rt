@@ -1,6 +1,5 @@
 //! A test of the spoiled ending.
-use super::*;
-use crate::{FourBytes, LineRules};
+use line_rules::{FourBytes, LineRules, Outlet};
 
 // What leaves for the last of these bytes, which is the last one of its burst; `None` if a fill is
 // owed after it.

@@ -1,6 +1,6 @@
 use Rattle.sequence_journal.specs.Journal.{journal_floor}
 use Rattle.std.proofs.Common.{◌∙◌, ap, sym, arith}
-use Rattle.live_commands.proofs.box_tests.driven.Goals as goal
+use Rattle.replay_tests.proofs.live_boxes.driven.Goals as goal
 
 pub drive-end-requires-clause-ready : goal.drive-end-requires-clause-ready
 drive-end-requires-clause-ready g c = let made = c.new-live_box.ensures in record {

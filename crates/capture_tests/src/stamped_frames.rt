@@ -3,9 +3,9 @@
 
 ghost use Rattle.std.specs.Prelude.{◌<◌, length};
 
-use crate::*;
 use device_model::{Device, RtuDevice};
 use line_stamps::{CaptureByte, Placer, Rate, Spacing, Timing, Way};
+use stamp_laws::*;
 use std::alloc::{AllocError, Global};
 use std::test::Fail;
 use yasir_ticks::Tick;

@@ -2,11 +2,11 @@
 ghost use Rattle.std.specs.Prelude.{None};
 ghost use Rattle.line_commands.specs.History.{untold};
 
-use crate::live_box::LiveBox;
 use arrayvec::ArrayVec;
 use check_receiver::Checker;
 use line_commands::{LineBox, Output, Port};
 use link_format::{Dir, HmacSha1};
+use live_commands::LiveBox;
 use rtu_frame::Rtu;
 use seal_transmitter::Sealer;
 use sequence_journal::{Journal, slot_of};

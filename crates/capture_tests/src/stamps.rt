@@ -1,7 +1,7 @@
 //! Words of rates, worked rows of captures at 1,000 baud and 10 bits, where a character is 10 ms,
 //! and starts of ticks at 9,600 baud and 11 bits, where it is 1,145,833 1/3 ns.
 
-use crate::*;
+use line_stamps::*;
 use std::process::Abort;
 use std::test::Fail;
 

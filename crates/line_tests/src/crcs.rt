@@ -1,5 +1,5 @@
 //! Tests of the CRCs against known registers.
-use super::{CrcTable, crc_by_bits};
+use line_rules::{CrcTable, crc_by_bits};
 
 // A byte, and its entries in the tables of Modbus RTU and of DNP3.
 const ENTRIES: [(u8, u16, u16); 10] = [

@@ -1,6 +1,6 @@
 //! Traces that sigrok-cli wrote, and tables in the form that Saleae publishes.
 
-use super::*;
+use capture_text::{BadRow, Logic2, RowFault, RowForm, RowReader, Sigrok};
 use line_stamps::{CaptureByte, CaptureReader, LineEvent, MAX_BYTES, Seen, Way};
 use std::alloc::Global;
 use std::process::Abort;
