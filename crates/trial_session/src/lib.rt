@@ -37,6 +37,3 @@ pub use laws::sessions_tell;
 pub use printing::{push_worded, session_line};
 pub use session::try_session;
 pub use summary::Summary;
-
-#[cfg(test)]
-mod tests;

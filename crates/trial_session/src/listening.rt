@@ -13,14 +13,6 @@ pub struct Listening<V> {
     read: u64,
 }
 
-#[cfg(test)]
-impl<V> Listening<V> {
-    /// The device.
-    pub fn device(&self) -> &V {
-        &self.device
-    }
-}
-
 // How many frames a device has read in some ticks: one if `start` has the tick at which it begins,
 // or none.
 #[inline]

@@ -15,19 +15,6 @@ pub struct Receiving<C, V> {
     listening: Listening<V>,
 }
 
-#[cfg(test)]
-impl<C, V> Receiving<C, V> {
-    /// The receiver.
-    pub fn checking(&self) -> &Side<C> {
-        &self.checking
-    }
-
-    /// The device.
-    pub fn listening(&self) -> &Listening<V> {
-        &self.listening
-    }
-}
-
 impl<C: CountingBox, V: Device + Drop> Receiving<C, V> {
     ghost use Rattle.std.specs.Prelude.{◌≡◌, ◌+◌, ◌<◌, ◌≤◌, List, [], ◌++◌, length, take};
     ghost use Rattle.yasir_ticks.specs.Ticks.{silent};

@@ -12,9 +12,6 @@ use crate::{CountingBox, DrawnFrames, Draws, Summary};
 use device_model::Device;
 use yasir_ticks::{MAX_TICKS, TickRun};
 
-#[cfg(test)]
-mod turn_tests;
-
 /// How many silent ticks follow the link of a session, so that all frames that have passed are
 /// read.
 const REST: u32 = 320;

@@ -19,14 +19,6 @@ pub struct Side<X> {
     dropped: u64,
 }
 
-#[cfg(test)]
-impl<X> Side<X> {
-    /// The box.
-    pub fn line_box(&self) -> &X {
-        &self.line_box
-    }
-}
-
 impl<X: CountingBox> Side<X> {
     ghost use Rattle.std.specs.Prelude.{◌≡◌, ◌+◌, ◌<◌, ◌≤◌, List, [], ◌∷◌, ◌++◌, length};
     ghost use Rattle.std.specs.Prelude.{take, Option};
