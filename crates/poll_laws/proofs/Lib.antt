@@ -7,3 +7,4 @@ pub mod PollingOn
 pub mod Merging
 pub mod Parting
 pub mod Several
+mod WorkedRests
