@@ -1,7 +1,7 @@
 -- A receiver whose link was silent for long enough goes on as one that has just begun.
-use Rattle.frame_ending.proofs.Spread.{AreSpread, EndBy, bursts-spread, bursts-end}
+use Rattle.frame_ending.proofs.Spread.{EndBy, bursts-end}
 use Rattle.frame_ending.specs.LiveBytes.{live_bytes, live_ticks}
-use Rattle.frame_ending.specs.{Laid.tick_at, Laid.laid, Laid.later}
+use Rattle.frame_ending.specs.{Laid.laid, Laid.later}
 use Rattle.frame_ending.specs.Walk.{Noted, emitted_by, state_after, notes_of}
 use Rattle.line_rules.specs.{Rules.Rules, Rules.head_of, RulesLaws.IsLawful, RulesLaws.IsHeaded}
 use Rattle.line_rules.specs.declared.head.Head.{Head}
@@ -13,23 +13,22 @@ use Rattle.link_box.specs.Checking.{checker, at_floor, passed, passed_in, receiv
 use Rattle.link_box.specs.{Emissions.emission_by, Emissions.spoiled, Emissions.filled_ticks, Timely.IsTimely}
 use Rattle.link_box.specs.Verdicts.{CheckState, Verdict, checked, verdict_of, verdict_by_head}
 use Rattle.link_box.specs.Verdicts.Verdict.{passed_with, refused, dropped}
-use Rattle.link_box.specs.declared.check_note.DroppedWhy.{DroppedWhy}
 use Rattle.link_box.specs.declared.check_note.DroppedWhy.TheVariants.{Busy, Head as NoHead}
 use Rattle.link_format.specs.NumberedFrame.{last_number}
 use Rattle.link_format.specs.Profile.{Profile, delay}
-use Rattle.poll_laws.proofs.Resuming.{AreGone, Shifts, laid-dark, whole, whole-long, whole-bursts}
+use Rattle.poll_laws.proofs.Resuming.{AreGone, Shifts, laid-dark, whole-long, whole-bursts}
 use Rattle.poll_laws.proofs.Resuming.{line-split, notes-split, option_later, frames-later}
 use Rattle.poll_laws.proofs.SealingOn.{same-early}
 use Rattle.poll_laws.specs.Rested.{frame_later}
 use Rattle.receiver_laws.proofs.InStep.{free-by, floor-so-far}
 use Rattle.receiver_laws.proofs.{Notes.frames_in, Recovering.left-by}
 use Rattle.receiver_laws.specs.Recovery.{LackAtMost}
-use Rattle.std.proofs.Common.{◌≡◌, ◌∙◌, ℕ, ◌+◌, ◌-◌, ◌<◌, ◌≤◌, nat_lt, cond}
+use Rattle.std.proofs.Common.{◌≡◌, ◌∙◌, ℕ, ◌+◌, ◌-◌, ◌≤◌, nat_lt, cond}
 use Rattle.std.proofs.Common.{List, [], ◌∷◌, ◌++◌, length, map, refl, sym, ap, subst, arith}
 use Rattle.std.proofs.lemmas.List.Elements.{filter_map-append}
 use Rattle.yasir_ticks.specs.{Bursts.Burst, Bursts.bursts, Bursts.end_of, Bursts.AreClosed}
 use Rattle.yasir_ticks.specs.{Ticks.silent, Ticks.AreTicks}
-use Rattle.yasir_ticks.specs.declared.tick.Tick.{Tick, TheVariants.Silent}
+use Rattle.yasir_ticks.specs.declared.tick.Tick.{Tick}
 
 abbrev moved : ℕ → FullNote → FullNote
 moved n (passed_note number start frame) = passed_note number (n + start) frame

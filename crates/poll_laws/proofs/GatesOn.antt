@@ -1,9 +1,9 @@
 -- A gate that has let bursts through before lets all through that one lets through that has just
 -- begun.
-use Rattle.std.proofs.Common.{◌≡◌, ◌∙◌, ◌⊎◌, inl, inr, ⊎_elim, ℕ, zero, suc, ◌+◌, ◌≤◌, ◌<◌}
+use Rattle.std.proofs.Common.{◌≡◌, ◌∙◌, ◌⊎◌, inl, inr, ⊎_elim, ℕ, zero, suc, ◌+◌, ◌≤◌}
 use Rattle.std.proofs.Common.{Bool, true, false, ◌||◌, nat_le, List, [], ◌∷◌, ◌++◌, length, drop, get_or}
 use Rattle.std.proofs.Common.{refl, sym, ap, subst, arith}
-use Rattle.std.proofs.lemmas.Bool.{cases_lt, cases_Bool, cond-true, cond-false, le-leb, lt-leb}
+use Rattle.std.proofs.lemmas.Bool.{cases_lt, cond-true, cond-false, le-leb, lt-leb}
 use Rattle.yasir_ticks.specs.declared.tick.Tick.{Tick, TheVariants.Silent, TheVariants.Byte}
 use Rattle.two_wire.specs.declared.gate.Side.{Side}
 use Rattle.two_wire.specs.declared.gate.Side.TheVariants.{Asks, Answers}
@@ -11,7 +11,7 @@ use Rattle.two_wire.specs.declared.gate.Spoken.{Spoken}
 use Rattle.two_wire.specs.declared.gate.Spoken.TheVariants.{Nobody, Asker, Answerer}
 use Rattle.two_wire.specs.declared.gate.Waits.{Waits}
 use Rattle.two_wire.specs.Gate.{GateState, lets, let_through, known_after, gate_after, gated}
-use Rattle.two_wire.specs.Turns.{may_ask, may_ask_on, may_speak, quiet_of}
+use Rattle.two_wire.specs.Turns.{may_ask_on, may_speak, quiet_of}
 
 -- ---- a gate goes on over a second line
 

@@ -1,12 +1,12 @@
 -- A two-wire box that has rested goes on as one that has just begun with the floors that it has
 -- reached.
-use Rattle.frame_ending.proofs.{Emissions.tick_at-none, Longer.length-line_of}
+use Rattle.frame_ending.proofs.{Longer.length-line_of}
 use Rattle.frame_ending.proofs.Spread.{AreSpread, bursts-spread}
 use Rattle.frame_ending.specs.{Laid.tick_at, Laid.laid, Laid.later, Walk.emitted_by}
 use Rattle.line_rules.specs.{Rules.Rules, RulesLaws.IsLawful, RulesLaws.IsHeaded}
 use Rattle.link_box.proofs.Apart.{emissions-spread}
 use Rattle.link_box.specs.Checking.{checker, at_floor as check_floor, passed, received_line}
-use Rattle.link_box.specs.Sealing.{sealer, at_floor as seal_floor, sealed, link_line}
+use Rattle.link_box.specs.Sealing.{sealed, link_line}
 use Rattle.link_box.specs.Timely.{IsTimely}
 use Rattle.link_format.specs.NumberedFrame.{last_number}
 use Rattle.link_format.specs.Profile.{Profile, HasTags, delay}
@@ -16,26 +16,24 @@ use Rattle.poll_laws.proofs.Resuming.{later-dark, tick_at-later}
 use Rattle.poll_laws.proofs.SealingOn.{seals-on, sealed-on, sent-quiet}
 use Rattle.poll_laws.specs.Rested.{EndsSilent, and_then, Before, begun, HasRested, frame_later, GoesOn}
 use Rattle.poll_laws.specs.Rested.{GivesAll}
-use Rattle.receiver_laws.proofs.{Parting.take-append-add, Parting.silent-add}
+use Rattle.receiver_laws.proofs.{Parting.take-append-add}
 use Rattle.receiver_laws.proofs.Standing.{ticks-front}
 use Rattle.receiver_laws.specs.Recovery.{LackAtMost}
-use Rattle.std.proofs.Common.{◌≡◌, ◌∙◌, ◌⊎◌, inl, inr, ⊎_elim, ℕ, zero, suc, ◌+◌, ◌-◌, ◌≤◌, ◌<◌}
+use Rattle.std.proofs.Common.{◌≡◌, ◌∙◌, inr, ⊎_elim, ℕ, zero, suc, ◌+◌, ◌-◌, ◌≤◌, ◌<◌}
 use Rattle.std.proofs.Common.{List, [], ◌∷◌, ◌++◌, length, map, take, refl, sym, ap, subst, arith}
 use Rattle.std.proofs.Common.{append_assoc, length-append, ◌&&◌, nat_le, nat_lt, false}
 use Rattle.std.proofs.lemmas.Bool.{cases_lt}
 use Rattle.std.proofs.lemmas.List.{length-replicate}
 use Rattle.std.specs.List.{range_with_len}
-use Rattle.two_wire.proofs.Ends.{hears-long, on_wires-long, gated-long}
+use Rattle.two_wire.proofs.Ends.{on_wires-long}
 use Rattle.two_wire.proofs.Gating.{on_wires-laid}
 use Rattle.two_wire.specs.Gate.{GateState, gated, at_rest}
 use Rattle.two_wire.specs.TwoWire.{EndSetup, EndWires, IsTwoWire, heard_device, heard_link}
 use Rattle.two_wire.specs.Wires.{hears, on_wires}
-use Rattle.two_wire.specs.declared.gate.Side.{Side}
 use Rattle.two_wire.specs.declared.gate.Side.TheVariants.{Asks}
-use Rattle.two_wire.specs.declared.gate.Spoken.TheVariants.{Nobody}
 use Rattle.yasir_ticks.specs.{Bursts.Burst, Bursts.bursts, Bursts.end_of}
 use Rattle.yasir_ticks.specs.{Ticks.silent, Ticks.AreTicks}
-use Rattle.yasir_ticks.specs.declared.tick.Tick.{Tick, TheVariants.Silent, TheVariants.Byte}
+use Rattle.yasir_ticks.specs.declared.tick.Tick.{Tick, TheVariants.Silent}
 
 -- ---- two lists, one after the other
 

@@ -4,13 +4,12 @@ use Rattle.device_model.specs.Frames.{FrameRead}
 use Rattle.poll_laws.proofs.GatesOn.{AreDark}
 use Rattle.poll_laws.specs.Among.{IsInterleaved, IsInterleaved.none, IsInterleaved.first}
 use Rattle.poll_laws.specs.Among.{IsInterleaved.second}
-use Rattle.std.proofs.Common.{◌≡◌, ◌∙◌, ⊎_elim, ℕ, zero, suc, ◌+◌, ◌-◌, ◌≤◌, ◌<◌, Bool, List, []}
-use Rattle.std.proofs.Common.{◌∷◌, ◌++◌, length, refl, sym, ap, subst, arith}
+use Rattle.std.proofs.Common.{◌≡◌, ◌∙◌, ⊎_elim, ℕ, zero, suc, ◌+◌, ◌-◌, ◌≤◌, Bool, List, []}
+use Rattle.std.proofs.Common.{◌∷◌, ◌++◌, refl, sym, ap, subst, arith}
 use Rattle.std.proofs.lemmas.Bool.{cases_lt}
 use Rattle.std.specs.List.{flat_map}
 use Rattle.two_wire.specs.Wires.{drives, IsApart}
 use Rattle.yasir_ticks.proofs.BurstLaws.{alone, with_byte-near, with_byte-far, bursts_from-starts}
-use Rattle.yasir_ticks.proofs.BurstsOfLaws.{bursts_from-cons}
 use Rattle.yasir_ticks.specs.Bursts.{Burst, with_byte, bursts_from}
 use Rattle.yasir_ticks.specs.{BurstsOf.StartsFrom, Ticks.silent}
 use Rattle.yasir_ticks.specs.declared.tick.Tick.{Tick, TheVariants.Silent, TheVariants.Byte}

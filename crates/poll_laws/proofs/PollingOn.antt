@@ -4,7 +4,6 @@ use Rattle.line_rules.specs.{Rules.Rules, RulesLaws.IsLawful, RulesLaws.IsHeaded
 use Rattle.link_box.specs.Checking.{passed, received_line}
 use Rattle.link_box.specs.Sealing.{sealed}
 use Rattle.link_box.specs.Timely.{IsTimely}
-use Rattle.link_format.specs.NumberedFrame.{NumberedFrame}
 use Rattle.link_format.specs.Profile.{HasTags}
 use Rattle.poll_laws.proofs.GoingOn.{goes-on}
 use Rattle.poll_laws.specs.Rested.{Before, frame_later, GivesAll, GoesOn, BothHaveRested}
@@ -14,14 +13,13 @@ use Rattle.std.proofs.Common.{◌≡◌, ◌∙◌, ℕ, suc, ◌+◌, ◌≤◌
 use Rattle.std.proofs.Common.{arith}
 use Rattle.two_wire.proofs.{Polling.said-comes, Polling.polls-delivered, Sharing.hears-other}
 use Rattle.two_wire.proofs.Sharing.{hears-own}
-use Rattle.two_wire.specs.Polling.{Polling, PollsInTurn, all_said, end_a, end_b, wires_a, wires_b}
+use Rattle.two_wire.specs.Polling.{Polling, PollsInTurn, end_a, end_b, wires_a, wires_b}
 use Rattle.frame_ending.specs.LiveBytes.{live_bytes}
 use Rattle.yasir_ticks.specs.declared.tick.Tick.{Tick}
 use Rattle.two_wire.specs.Polling.{PollsAreDelivered}
 use Rattle.two_wire.specs.Polling.{requests_sent, answers_sent}
 use Rattle.two_wire.specs.TwoWire.{heard_device, heard_link}
 use Rattle.two_wire.specs.Wires.{on_wires}
-use Rattle.two_wire.specs.declared.gate.Side.{Side}
 use Rattle.two_wire.specs.declared.gate.Side.TheVariants.{Asks, Answers}
 use Rattle.yasir_ticks.specs.Bursts.{Burst, bursts}
 

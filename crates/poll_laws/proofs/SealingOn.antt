@@ -13,19 +13,19 @@ use Rattle.link_box.specs.Sealing.{sealed_in, start_after, FullNote.sealed_note,
 use Rattle.link_box.specs.Sealing.Judgement.{sealed_with, unsealed}
 use Rattle.link_box.specs.declared.seal_note.UnsealedWhy.TheVariants.{Early, Form, Spent}
 use Rattle.link_format.proofs.Profiles.{length-trailer}
-use Rattle.link_format.specs.NumberedFrame.{NumberedFrame, last_number}
+use Rattle.link_format.specs.NumberedFrame.{last_number}
 use Rattle.link_format.specs.Profile.{Profile, HasTags, delay, pause_len, trailer_len, trailer}
-use Rattle.poll_laws.proofs.Resuming.{AreGone, Shifts, laid-dark, all-noted, whole, whole-long}
+use Rattle.poll_laws.proofs.Resuming.{AreGone, Shifts, laid-dark, all-noted, whole-long}
 use Rattle.poll_laws.proofs.Resuming.{whole-bursts, line-split, notes-split, option_later, frames-later}
 use Rattle.poll_laws.specs.Rested.{frame_later}
 use Rattle.receiver_laws.proofs.Packing.{length-trailing}
 use Rattle.std.proofs.Common.{◌≡◌, ◌∙◌, ℕ, suc, ◌+◌, ◌-◌, ◌<◌, ◌≤◌, ◌&&◌, ◌==◌, ◌||◌, nat_le, nat_lt}
-use Rattle.std.proofs.Common.{not, false, true, List, [], ◌∷◌, ◌++◌, length, map, refl, sym, ap, subst}
+use Rattle.std.proofs.Common.{not, false, List, [], ◌∷◌, ◌++◌, length, map, refl, sym, ap, subst}
 use Rattle.std.proofs.Common.{arith, append_assoc, length-append, ⊎_elim}
 use Rattle.std.proofs.lemmas.Bool.{cases_lt, lt-ltb, le-ltb}
 use Rattle.std.proofs.lemmas.List.Elements.{filter_map-append}
 use Rattle.yasir_ticks.specs.{Bursts.Burst, Bursts.bursts, Bursts.end_of, Ticks.silent}
-use Rattle.yasir_ticks.specs.declared.tick.Tick.{Tick, TheVariants.Silent}
+use Rattle.yasir_ticks.specs.declared.tick.Tick.{Tick}
 
 -- whether a burst that comes n ticks later comes too soon
 pub same-early : (n a e f : ℕ) → e - n ≡ f → nat_lt (n + a) e ≡ nat_lt a f

@@ -1,7 +1,7 @@
 -- What each of several devices on one pair of wires reads.
 use Rattle.frame_ending.proofs.LaidBursts.{bursts-laid}
-use Rattle.frame_ending.proofs.Spread.{AreSpread, EndBy, bursts-spread, bursts_from-spread}
-use Rattle.frame_ending.specs.{Laid.laid, Laid.later, Walk.emitted_by}
+use Rattle.frame_ending.proofs.Spread.{AreSpread, bursts-spread, bursts_from-spread}
+use Rattle.frame_ending.specs.{Laid.later, Walk.emitted_by}
 use Rattle.device_model.specs.{Frames.FrameRead, Hunt.timed, Hunt.hunt, Hunt.hunt_anew}
 use Rattle.device_model.specs.{HuntFamily.hunt_family, HuntLaws.IsHunted, RtuReads.is_frame_body}
 use Rattle.device_model.specs.DnpHunted.{dnp_hunted}
@@ -23,19 +23,18 @@ use Rattle.poll_laws.specs.Among.{IsOneOfSeveral, IsDeafAmong}
 use Rattle.poll_laws.specs.Rested.{EndsSilent}
 use Rattle.receiver_laws.proofs.Anew.{anew-hunter}
 use Rattle.receiver_laws.proofs.HunterReadings.{plain-hunter, frame-taken, emissions-taken}
-use Rattle.receiver_laws.proofs.Hunters.{AreTaken, IsTaken, hunter-laid}
+use Rattle.receiver_laws.proofs.Hunters.{AreTaken, hunter-laid}
 use Rattle.receiver_laws.proofs.Settled.{reads_with, laid-longer, last_end, EndBy-later, EndBy-last}
 use Rattle.receiver_laws.proofs.Stated.{stated_lawful}
 use Rattle.receiver_laws.specs.Hunters.{IsHunter}
 use Rattle.receiver_laws.specs.Accounted.{IsSubsequence, IsSubsequence.none as no_more}
 use Rattle.receiver_laws.specs.Accounted.{IsSubsequence.skip, IsSubsequence.keep}
-use Rattle.std.proofs.Common.{◌≡◌, ◌∙◌, ◌⊎◌, inl, inr, ⊎_elim, ℕ, zero, suc, ◌+◌, ◌≤◌, true, List}
+use Rattle.std.proofs.Common.{◌≡◌, ◌∙◌, ◌⊎◌, inl, inr, ℕ, zero, suc, ◌+◌, ◌≤◌, List}
 use Rattle.std.proofs.Common.{[], ◌∷◌, ◌++◌, length, map, refl, sym, ap, subst, arith, append_assoc}
-use Rattle.std.proofs.lemmas.List.{append-nil}
 use Rattle.two_wire.proofs.{Devices.stated-given, Ends.end-gives, Ends.hears-long, Gating.laid-bursts}
-use Rattle.two_wire.proofs.Giving.{same-is, later-some-spread}
+use Rattle.two_wire.proofs.Giving.{later-some-spread}
 use Rattle.two_wire.proofs.{Polling.drives-long, Resting.bursts-joined, Sharing.hears-between}
-use Rattle.two_wire.specs.Given.{GivesSome, ReadsSealed}
+use Rattle.two_wire.specs.Given.{GivesSome}
 use Rattle.two_wire.specs.TwoWire.{EndSetup, EndWires, IsTwoWire, heard_link, heard_lines}
 use Rattle.two_wire.specs.Turns.{AreWithin}
 use Rattle.two_wire.specs.Wires.{hears, drives, AreApart}
@@ -87,16 +86,16 @@ apart-long (x ∷ own) (o ∷ others) apart = let rest = apart-long own others a
 
 -- ---- a device that takes silence for the end
 
-module _ (box others : List Tick) (parted : AreParted 4 box others)
+module _ (gap : ℕ) (box others : List Tick) (parted : AreParted gap box others)
     (same : length box ≡ length others) where
-  pub cut-reads : (cut pause : ℕ) → cut ≤ 4
+  pub cut-reads : (cut pause : ℕ) → cut ≤ gap
       → IsInterleaved (reads_with cut pause (drives box others)) (reads_with cut pause box)
       (reads_with cut pause others)
   cut-reads cut pause few =
       let long = drives-long box others same in
       let ds : List Burst = bursts_from cut 0 (drives box others) in
       let all = ended-interleaved cut (λ d. is_frame_body pause d.body) (length box)
-      (bursts-interleaved cut box others (parted-less cut 4 box others few parted)) in
+      (bursts-interleaved cut box others (parted-less cut gap box others few parted)) in
       let R : ℕ → List Burst → List FrameRead =
       λ m xs. frames_ended cut (λ d. is_frame_body pause d.body) m xs in
       subst (λ m. IsInterleaved (R m ds) (R (length box) (bursts_from cut 0 box))
@@ -104,13 +103,13 @@ module _ (box others : List Tick) (parted : AreParted 4 box others)
       (subst (λ m. IsInterleaved (R (length box) ds) (R (length box) (bursts_from cut 0 box))
       (R m (bursts_from cut 0 others))) same all)
 
-  pub anew-reads : (first_byte second_byte : ℕ) (rules : Rules) (cut : ℕ) → cut ≤ 4
+  pub anew-reads : (first_byte second_byte : ℕ) (rules : Rules) (cut : ℕ) → cut ≤ gap
       → IsInterleaved (hunt_anew first_byte second_byte rules cut 0 (drives box others))
       (hunt_anew first_byte second_byte rules cut 0 box)
       (hunt_anew first_byte second_byte rules cut 0 others)
   anew-reads first_byte second_byte rules cut few =
       flat-interleaved (λ d. hunt first_byte second_byte rules 0 (timed d.start d.body))
-      (bursts-interleaved cut box others (parted-less cut 4 box others few parted))
+      (bursts-interleaved cut box others (parted-less cut gap box others few parted))
 
 -- ---- a device that hunts among whole frames
 
@@ -187,12 +186,11 @@ module _ (first_byte second_byte : ℕ) (rules : Rules) (lawful : IsLawful rules
         ∙ hunter-laid first_byte second_byte rules headed framed hunted read hunter (length line) ds
         (bursts_from-spread 2 0 line) taken
 
-    hunter-reads : (box others : List Tick) → AreParted 4 box others → length box ≡ length others
+    hunter-reads : (box others : List Tick) → AreParted 2 box others → length box ≡ length others
         → Taken (bursts_from 2 0 box) → Taken (bursts_from 2 0 others)
         → IsInterleaved (read 0 (drives box others)) (read 0 box) (read 0 others)
     hunter-reads box others parted same one two =
-        let few : 2 ≤ 4 = omega arith in
-        let is = bursts-interleaved 2 box others (parted-less 2 4 box others few parted) in
+        let is = bursts-interleaved 2 box others parted in
         let long = drives-long box others same in
         let ds : List Burst = bursts_from 2 0 (drives box others) in
         let all = ended-interleaved 0 (λ d. rules.is_frame (bytes_in d.body)) (length box) is in
@@ -203,7 +201,7 @@ module _ (first_byte second_byte : ℕ) (rules : Rules) (lawful : IsLawful rules
         (sym (reads-bursts others two ∙ ap (λ m. R m (bursts_from 2 0 others)) (sym same))) all))
 
   pub family-reads : (cut : ℕ) → (cut ≡ 0) ⊎ (2 ≤ cut) → (box others : List Tick)
-      → AreParted 4 box others → length box ≡ length others → Taken (bursts_from 2 0 box)
+      → AreParted 2 box others → length box ≡ length others → Taken (bursts_from 2 0 box)
       → Taken (bursts_from 2 0 others)
       → IsInterleaved (hunt_family first_byte second_byte rules cut (drives box others))
       (hunt_family first_byte second_byte rules cut box)
@@ -218,36 +216,36 @@ module _ (first_byte second_byte : ℕ) (rules : Rules) (lawful : IsLawful rules
 
 -- ---- the stated devices
 
-module _ (profile : Profile) (floor late : ℕ) (link box others : List Tick)
-    (parted : AreParted 4 box others) (same : length box ≡ length others) where
+module _ (profile : Profile) (floor late : ℕ) (link box others : List Tick) (gap : ℕ)
+    (some : 2 ≤ gap) (parted : AreParted gap box others) (same : length box ≡ length others) where
   abbrev Interleaves : (List Tick → List FrameRead) → Type 0
   Interleaves reads = IsInterleaved (reads (drives box others)) (reads box) (reads others)
 
   dnp-whole : (cut : ℕ) → (cut ≡ 0) ⊎ (2 ≤ cut) → GivesSome profile dnp_rules floor late link box
       → AreWhole dnp_rules box others
       → Interleaves (λ l. hunt_family 0x05 0x64 dnp_rules cut l)
-  dnp-whole cut member some whole =
+  dnp-whole cut member gives whole =
       family-reads 0x05 0x64 dnp_rules dnp_lawful dnp_headed dnp_framed dnp_hunted cut member box
-      others parted same
+      others (parted-less 2 gap box others some parted) same
       (given-taken 0x05 0x64 dnp_rules dnp_lawful dnp_headed dnp_framed dnp_hunted profile floor late
-      link box some whole.ended)
+      link box gives whole.ended)
       (frames-taken 0x05 0x64 dnp_rules dnp_lawful dnp_headed dnp_framed dnp_hunted
       (bursts_from 2 0 others) whole.frames)
 
-  dnp-cut : (cut : ℕ) → (2 ≤ cut) × (cut ≤ 4)
+  dnp-cut : (cut : ℕ) → (2 ≤ cut) × (cut ≤ gap)
       → Interleaves (λ l. hunt_family 0x05 0x64 dnp_rules cut l)
-  dnp-cut zero few = let some : 2 ≤ 0 = few.0 in absurd (omega arith)
-  dnp-cut (suc cut) few = anew-reads box others parted same 0x05 0x64 dnp_rules (suc cut) few.1
+  dnp-cut zero few = let wide : 2 ≤ 0 = few.0 in absurd (omega arith)
+  dnp-cut (suc cut) few = anew-reads gap box others parted same 0x05 0x64 dnp_rules (suc cut) few.1
 
   pub stated-interleaved : (device : StatedDevice) → IsStatedWithin (delay profile) device
-      → GivesSome profile (stated_rules device) floor late link box → TellsApart box others device
+      → GivesSome profile (stated_rules device) floor late link box → TellsApart gap box others device
       → Interleaves (stated_reads device)
-  stated-interleaved rtu any some tells = cut-reads box others parted same 4 2 (omega arith)
-  stated-interleaved dnp any some tells = dnp-whole 0 (inl refl) some tells
-  stated-interleaved (rtu_member cut gap) any some tells =
-      cut-reads box others parted same cut (suc gap) tells
-  stated-interleaved (dnp_member cut) any some (inl few) = dnp-cut cut few
-  stated-interleaved (dnp_member cut) any some (inr whole) = dnp-whole cut any some whole
+  stated-interleaved rtu any gives tells = cut-reads gap box others parted same 4 2 tells
+  stated-interleaved dnp any gives tells = dnp-whole 0 (inl refl) gives tells
+  stated-interleaved (rtu_member cut inside) any gives tells =
+      cut-reads gap box others parted same cut (suc inside) tells
+  stated-interleaved (dnp_member cut) any gives (inl few) = dnp-cut cut few
+  stated-interleaved (dnp_member cut) any gives (inr whole) = dnp-whole cut any gives whole
 
 -- ---- beside a box
 
@@ -258,48 +256,48 @@ module _ (device : StatedDevice) (end : EndSetup)
       w.to_device
   gives = end-gives (stated_rules device) (stated_lawful device) end (heard_lines w) is.drives_lines
 
-  reads-among : (heard others : List Tick) → heard ≡ drives w.to_device others
-      → AreParted 4 w.to_device others → length w.to_device ≡ length others
-      → TellsApart w.to_device others device → ReadsAmong device end w heard others seal_floor line
-  reads-among heard others heard_is parted same tells = record {
+  reads-among : (gap : ℕ) → 2 ≤ gap → (heard others : List Tick)
+      → heard ≡ drives w.to_device others → AreParted gap w.to_device others
+      → length w.to_device ≡ length others
+      → TellsApart gap w.to_device others device → ReadsAmong device end w heard others seal_floor line
+  reads-among gap some heard others heard_is parted same tells = record {
     said = stated-given device end.incoming within seal_floor end.got_floor end.late line
         (heard_link w) w.to_device gives;
     among = subst (λ l. IsInterleaved (stated_reads device l) (stated_reads device w.to_device)
         (stated_reads device others)) (sym heard_is)
-        (stated-interleaved end.incoming end.got_floor end.late (heard_link w) w.to_device others
-        parted same device within gives tells);
+        (stated-interleaved end.incoming end.got_floor end.late (heard_link w) w.to_device others gap
+        some parted same device within gives tells);
   }
 
-  pub one-of-several : (own others : List Tick) → IsOneOfSeveral end w own others
-      → TellsApart w.to_device others device
+  pub one-of-several : (gap : ℕ) (own others : List Tick) → IsOneOfSeveral gap end w own others
+      → TellsApart gap w.to_device others device
       → ReadsAmong device end w (hears own w.device_wires) others seal_floor line
-  one-of-several own others one tells =
+  one-of-several gap own others one tells =
       let all : List Tick = drives own others in
       let turns = one.shares.turns in
       let wires = one.shares.wires_are in
       let long = apart-long own others one.apart in
       let sum = drives-long own others long in
       let same = turns.same_ticks in
-      reads-among (hears own w.device_wires) others
+      reads-among gap one.apart_from_box.some (hears own w.device_wires) others
       (ap (hears own) wires ∙ hears-between w.to_device own others
-      (box-apart (stated_rules device) end w is one.apart_from_box all wires turns) one.apart)
-      (box-parted (stated_rules device) end w is one.apart_from_box all wires turns others
+      (box-apart (stated_rules device) end w is all wires turns) one.apart)
+      (box-parted (stated_rules device) end w is all wires turns gap one.apart_from_box others
       (omega arith) (others-within own others one.apart))
       (omega arith) tells
 
-  pub deaf-among : (others deaf : List Tick) → IsDeafAmong end w others deaf
-      → TellsApart w.to_device (hears deaf others) device
+  pub deaf-among : (gap : ℕ) (others deaf : List Tick) → IsDeafAmong gap end w others deaf
+      → TellsApart gap w.to_device (hears deaf others) device
       → ReadsAmong device end w (hears deaf w.device_wires) (hears deaf others) seal_floor line
-  deaf-among others deaf among tells =
+  deaf-among gap others deaf among tells =
       let turns = among.deafly.turns in
       let wires = among.wires_are in
       let same = turns.same_ticks in
       let deafness = among.deafly.deaf_ticks in
       let long = hears-long deaf others deafness in
-      reads-among (hears deaf w.device_wires) (hears deaf others)
+      reads-among gap among.apart_from_box.some (hears deaf w.device_wires) (hears deaf others)
       (ap (hears deaf) wires ∙ part-hears w.to_device deaf others
-      (deafly-apart (stated_rules device) end w is among.apart_from_box others wires turns deaf
-      among.deafly) same)
-      (box-parted (stated_rules device) end w is among.apart_from_box others wires turns
+      (deafly-apart (stated_rules device) end w is others wires turns deaf among.deafly) same)
+      (box-parted (stated_rules device) end w is others wires turns gap among.apart_from_box
       (hears deaf others) (omega arith) (hears-within deaf others deafness))
       (omega arith) tells

@@ -12,16 +12,16 @@ use Rattle.line_rules.specs.Crc.{crc, byte_step, bit_steps, bit_step}
 use Rattle.line_rules.specs.Endings.{ends_in_check}
 use Rattle.link_box.specs.{Checking.received_line, Emissions.spoiled, Shapes.kept}
 use Rattle.link_box.specs.Verdicts.{verdict_of, checked}
-use Rattle.link_box.specs.Sealing.{link_line, judged}
-use Rattle.poll_laws.specs.Rested.{Before, HasRested, EndsSilent, begun}
+use Rattle.link_box.specs.Sealing.{judged}
+use Rattle.poll_laws.specs.Rested.{Before, HasRested}
 use Rattle.receiver_laws.proofs.Worked.{READ_TEN_REGISTERS, on_line, profile}
 use Rattle.rtu_frame.specs.{Frame.is_frame, Frame.has_right_ending, Rules.rtu_rules}
 use Rattle.std.proofs.Common.{◌≡◌, ◌&&◌, ℕ, ◌<◌, Bool, true, false, nat_lt, List, [], ◌∷◌, ◌++◌, refl}
-use Rattle.std.proofs.Common.{take, arith, ⊎_elim}
+use Rattle.std.proofs.Common.{⊎_elim}
 use Rattle.std.proofs.lemmas.Bool.{cases_lt, le-ltb}
 use Rattle.yasir_ticks.specs.{Bursts.bursts_from, Bursts.with_byte, Ticks.silent, Ticks.AreTicks}
 use Rattle.yasir_ticks.specs.declared.tick.Tick.{Tick, TheVariants.Silent, TheVariants.Byte}
-use Rattle.two_wire.specs.TwoWire.{EndSetup, EndWires}
+use Rattle.two_wire.specs.TwoWire.{EndSetup}
 use Rattle.two_wire.specs.Wires.{drives, on_wires}
 use Rattle.two_wire.specs.declared.gate.Side.TheVariants.{Answers}
 

@@ -23,25 +23,26 @@ use line_rules::LineRules;
 /// Of the box it reads only frames that were sealed, in their order, unless one that passed is
 /// forged. The frames of the others were never on the link, and nothing is said about them.
 ///
-/// A device that takes up to four silent ticks for the end of what it has heard is safe whatever the
-/// others say. One that hunts and waits longer, or ignores silence, is if they say whole frames
-/// alone, and at each moment at which the box has been silent for two ticks.
+/// Let `gap` silent ticks be between what the box says and what the devices say: four, if they do no
+/// more than keep the turns. A device that takes so many for the end of what it has heard is safe
+/// whatever the others say. One that hunts and waits longer, or ignores silence, is if they say
+/// whole frames alone, at each moment at which the box has been silent for two ticks.
 pub fn several_devices_read_what_was_sealed()
     /// It holds for a device that is deaf while it talks and at no other time.
     ensures one { (device : StatedDevice) (end : EndSetup)
         → IsStatedWithin (delay end.incoming) device
         → (w : EndWires) (seal_floor : ℕ) (line : List Tick)
         → IsTwoWire (stated_rules device) end w
-        → (own others : List Tick) → IsOneOfSeveral end w own others
-        → TellsApart w.to_device others device
+        → (gap : ℕ) (own others : List Tick) → IsOneOfSeveral gap end w own others
+        → TellsApart gap w.to_device others device
         → ReadsAmong device end w (hears own w.device_wires) others seal_floor line }
     /// It holds for one that is deaf only when it may be, or never, as it hears the others.
     ensures deaf { (device : StatedDevice) (end : EndSetup)
         → IsStatedWithin (delay end.incoming) device
         → (w : EndWires) (seal_floor : ℕ) (line : List Tick)
         → IsTwoWire (stated_rules device) end w
-        → (others deaf : List Tick) → IsDeafAmong end w others deaf
-        → TellsApart w.to_device (hears deaf others) device
+        → (gap : ℕ) (others deaf : List Tick) → IsDeafAmong gap end w others deaf
+        → TellsApart gap w.to_device (hears deaf others) device
         → ReadsAmong device end w (hears deaf w.device_wires) (hears deaf others) seal_floor line }
 {}
 
