@@ -57,7 +57,8 @@ pub fn several_devices_read_what_was_sealed()
 /// The gate must have heard the end of what the device said.
 pub fn rested_boxes_go_on<R: LineRules>()
     /// It holds for whatever comes then, if the gate of a box that has just begun would let all
-    /// through that passes, and one that asks doesn't wait longer behind an answer than for one.
+    /// through that its receiver returns, and one that asks doesn't wait longer behind an answer than
+    /// for one.
     ensures { (end : EndSetup) (before : Before) (w : EndWires) (most : ℕ)
         → HasTags end.outgoing → IsTimely end.incoming R.rules → LackAtMost R.rules most
         → HasRested R.rules most end before
