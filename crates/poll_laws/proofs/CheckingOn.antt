@@ -150,17 +150,17 @@ module _ (profile : Profile) (rules : Rules) (lawful : IsLawful rules) (headed :
   ends : EndBy (length front) ds
   ends =
       let P : List Burst → Type 0 = λ bs. EndBy (length front) bs in
-      subst P (sym (whole-bursts front k wide)) (bursts-end front)
+      subst P (sym (whole-bursts front k)) (bursts-end front)
 
   size : length link ≡ length front + k
-  size = whole-long front k wide
+  size = whole-long front k
 
   free : reached.earliest_start ≤ length front + delay profile + most
   free =
       let P : List Burst → Type 0 =
       λ bs. (state_after (checker profile rules) (at_floor floor) bs).earliest_start
       ≤ length front + delay profile + most in
-      subst P (sym (whole-bursts front k wide))
+      subst P (sym (whole-bursts front k))
       (free-by profile rules (length front + delay profile + most) (at_floor floor) (bursts front)
       (omega arith) (left-by profile rules lawful most lack front ticks (length front) refl))
 

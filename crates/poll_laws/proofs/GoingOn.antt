@@ -9,7 +9,7 @@ use Rattle.link_box.specs.Checking.{checker, at_floor as check_floor, passed, re
 use Rattle.link_box.specs.Sealing.{sealed, link_line}
 use Rattle.link_box.specs.Timely.{IsTimely}
 use Rattle.link_format.specs.NumberedFrame.{last_number}
-use Rattle.link_format.specs.Profile.{Profile, HasTags, delay}
+use Rattle.link_format.specs.Profile.{Profile, HasTags, delay, pause_len, trailer_len}
 use Rattle.poll_laws.proofs.CheckingOn.{checks-on, passed-on, given-quiet}
 use Rattle.poll_laws.proofs.GatesOn.{gated-front, AreDark, lets-all-too}
 use Rattle.poll_laws.proofs.Resuming.{later-dark, tick_at-later}
@@ -159,14 +159,14 @@ module _ (rules : Rules) (lawful : IsLawful rules) (headed : IsHeaded rules) (mo
 
   -- ---- the transmitter
 
-  abbrev quiet_device : ℕ
-  quiet_device = delay end.outgoing + 3 + end.late
+  abbrev free_device : ℕ
+  free_device = delay end.outgoing + 3
 
   sealed-now : end.sent_floor ≡ last_number before.sent_floor
-      (sealed end.outgoing rules before.sent_floor (rested.sent.front ++ silent quiet_device))
+      (sealed end.outgoing rules before.sent_floor (rested.free.front ++ silent free_device))
   sealed-now = rested.sent_floor
       ∙ ap (λ z. last_number before.sent_floor (sealed end.outgoing rules before.sent_floor z))
-      rested.sent.is
+      rested.free.is
 
   sends-both : link_line end.outgoing rules before.sent_floor (x ++ y)
       ≡ link_line end.outgoing rules before.sent_floor x
@@ -174,9 +174,9 @@ module _ (rules : Rules) (lawful : IsLawful rules) (headed : IsHeaded rules) (mo
   sends-both =
       subst (λ z. link_line end.outgoing rules before.sent_floor (z ++ y)
       ≡ link_line end.outgoing rules before.sent_floor z
-      ++ link_line end.outgoing rules end.sent_floor y) (sym rested.sent.is)
-      (seals-on end.outgoing rules lawful tags rested.sent.front quiet_device (omega arith)
-      before.sent_floor end.sent_floor sealed-now y)
+      ++ link_line end.outgoing rules end.sent_floor y) (sym rested.free.is)
+      (seals-on end.outgoing rules tags rested.free.front free_device before.sent_floor lawful
+      (omega arith) end.sent_floor sealed-now y)
 
   sealed-both : sealed end.outgoing rules before.sent_floor (x ++ y)
       ≡ sealed end.outgoing rules before.sent_floor x
@@ -185,14 +185,14 @@ module _ (rules : Rules) (lawful : IsLawful rules) (headed : IsHeaded rules) (mo
       subst (λ z. sealed end.outgoing rules before.sent_floor (z ++ y)
       ≡ sealed end.outgoing rules before.sent_floor z
       ++ map (frame_later (length z)) (sealed end.outgoing rules end.sent_floor y))
-      (sym rested.sent.is)
-      (sealed-on end.outgoing rules lawful tags rested.sent.front quiet_device (omega arith)
-      before.sent_floor end.sent_floor sealed-now y)
+      (sym rested.free.is)
+      (sealed-on end.outgoing rules tags rested.free.front free_device before.sent_floor lawful
+      (omega arith) end.sent_floor sealed-now y)
 
   sends-silent : EndsSilent end.late (link_line end.outgoing rules before.sent_floor x)
   sends-silent =
-      let quiet = sent-quiet end.outgoing rules lawful tags rested.sent.front quiet_device
-      (omega arith) before.sent_floor end.sent_floor sealed-now end.late (omega arith) in
+      let quiet = sent-quiet end.outgoing rules tags rested.sent.front
+      (pause_len + trailer_len end.outgoing + end.late) before.sent_floor end.late (omega arith) in
       record {
         front = quiet.0;
         is = ap (λ z. link_line end.outgoing rules before.sent_floor z) rested.sent.is ∙ quiet.1;

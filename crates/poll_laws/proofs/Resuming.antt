@@ -172,7 +172,7 @@ module _ {S N : Type 0} (w : Walker S N) (causal : IsCausal w) where
 -- ---- a line in two parts
 
 -- For a line that ends with k silent ticks.
-module _ (front : List Tick) (k : ℕ) (enough : 4 ≤ k) where
+module _ (front : List Tick) (k : ℕ) where
   abbrev pub whole : List Tick
   whole = front ++ silent k
 
@@ -182,60 +182,61 @@ module _ (front : List Tick) (k : ℕ) (enough : 4 ≤ k) where
   pub whole-bursts : bursts whole ≡ bursts front
   whole-bursts = bursts_from-silent_end T3_5_TICKS 0 k front
 
-  pub both-bursts : (y : List Tick)
-      → bursts (whole ++ y) ≡ bursts whole ++ map (later (length whole)) (bursts y)
-  both-bursts y =
-      let long = whole-long in
-      let sum : 0 + (length front + k) ≡ length whole = omega arith in
-      ap bursts (append_assoc front (silent k) y)
-      ∙ (bursts-joined T3_5_TICKS 0 (length whole) k front y enough sum
-      ∙ (ap (λ ds. bursts front ++ ds) (bursts-later T3_5_TICKS (length whole) y)
-      ∙ ap (λ ds. ds ++ map (later (length whole)) (bursts y)) (sym whole-bursts)))
+  module _ (enough : 4 ≤ k) where
+    pub both-bursts : (y : List Tick)
+        → bursts (whole ++ y) ≡ bursts whole ++ map (later (length whole)) (bursts y)
+    both-bursts y =
+        let long = whole-long in
+        let sum : 0 + (length front + k) ≡ length whole = omega arith in
+        ap bursts (append_assoc front (silent k) y)
+        ∙ (bursts-joined T3_5_TICKS 0 (length whole) k front y enough sum
+        ∙ (ap (λ ds. bursts front ++ ds) (bursts-later T3_5_TICKS (length whole) y)
+        ∙ ap (λ ds. ds ++ map (later (length whole)) (bursts y)) (sym whole-bursts)))
 
-  module _ {S N : Type 0} (w : Walker S N) (causal : IsCausal w) (moved : N → N)
-      (Alike : S → S → Type 0) (shifts : Shifts w (length whole) moved Alike) (s t : S)
-      (alike : Alike (state_after w s (bursts whole)) t)
-      (gone : AreGone (length whole) (emitted_by w s (bursts whole))) where
-    abbrev n : ℕ
-    n = length whole
+    module _ {S N : Type 0} (w : Walker S N) (causal : IsCausal w) (moved : N → N)
+        (Alike : S → S → Type 0) (shifts : Shifts w (length whole) moved Alike) (s t : S)
+        (alike : Alike (state_after w s (bursts whole)) t)
+        (gone : AreGone (length whole) (emitted_by w s (bursts whole))) where
+      abbrev n : ℕ
+      n = length whole
 
-    pub line-split : (y : List Tick) → line_of w s (whole ++ y) ≡ line_of w s whole ++ line_of w t y
-    line-split y =
-        let ds : List Burst = bursts whole in
-        let long = length-append whole y in
-        ap (λ i. laid i (emitted_by w s (bursts (whole ++ y)))) long
-        ∙ (ap (λ bs. laid (n + length y) (emitted_by w s bs)) (both-bursts y)
-        ∙ (ap (λ es. laid (n + length y) es)
-        (emitted-append w s ds (map (later n) (bursts y))
-        ∙ ap (λ es. emitted_by w s ds ++ es)
-        (emitted-later w n moved Alike shifts (state_after w s ds) t (bursts y) alike))
-        ∙ laid-split (emitted_by w s ds) (emitted_by w t (bursts y)) n gone (length y)))
+      pub line-split : (y : List Tick) → line_of w s (whole ++ y) ≡ line_of w s whole ++ line_of w t y
+      line-split y =
+          let ds : List Burst = bursts whole in
+          let long = length-append whole y in
+          ap (λ i. laid i (emitted_by w s (bursts (whole ++ y)))) long
+          ∙ (ap (λ bs. laid (n + length y) (emitted_by w s bs)) (both-bursts y)
+          ∙ (ap (λ es. laid (n + length y) es)
+          (emitted-append w s ds (map (later n) (bursts y))
+          ∙ ap (λ es. emitted_by w s ds ++ es)
+          (emitted-later w n moved Alike shifts (state_after w s ds) t (bursts y) alike))
+          ∙ laid-split (emitted_by w s ds) (emitted_by w t (bursts y)) n gone (length y)))
 
-    pub notes-split : (y : List Tick) → notes_of w s (whole ++ y)
-        ≡ notes_of w s whole ++ map (moved_note w n moved Alike shifts) (notes_of w t y)
-    notes-split y =
-        let ds : List Burst = bursts whole in
-        let long = length-append whole y in
-        let first : List (Noted N) = walked w s ds in
-        let spread = bursts-spread whole in
-        let size = whole-long in
-        let P : List Burst → Type 0 = λ bs. EndBy (length front) bs in
-        let ends : EndBy (length front) ds = subst P (sym whole-bursts) (bursts-end front) in
-        let all : (i : ℕ) → n ≤ i → notes_before i first ≡ first =
-        λ i from. all-noted w causal s 0 (length front) i ds spread ends (omega arith) in
-        ap (λ i. notes_before i (walked w s (bursts (whole ++ y)))) long
-        ∙ (ap (λ bs. notes_before (n + length y) (walked w s bs)) (both-bursts y)
-        ∙ (ap (notes_before (n + length y))
-        (walked-append w s ds (map (later n) (bursts y))
-        ∙ ap (λ l. first ++ l)
-        (walked-later w n moved Alike shifts (state_after w s ds) t (bursts y) alike))
-        ∙ (filter-append (λ q. nat_lt q.tick (n + length y)) first
-        (map (moved_note w n moved Alike shifts) (walked w t (bursts y)))
-        ∙ (ap (λ l. l ++ notes_before (n + length y)
-        (map (moved_note w n moved Alike shifts) (walked w t (bursts y))))
-        (all (n + length y) (omega arith) ∙ sym (all n (omega arith)))
-        ∙ ap (λ l. notes_before n first ++ l)
-        (before-moved w n moved Alike shifts (length y) (walked w t (bursts y)))))))
+      pub notes-split : (y : List Tick) → notes_of w s (whole ++ y)
+          ≡ notes_of w s whole ++ map (moved_note w n moved Alike shifts) (notes_of w t y)
+      notes-split y =
+          let ds : List Burst = bursts whole in
+          let long = length-append whole y in
+          let first : List (Noted N) = walked w s ds in
+          let spread = bursts-spread whole in
+          let size = whole-long in
+          let P : List Burst → Type 0 = λ bs. EndBy (length front) bs in
+          let ends : EndBy (length front) ds = subst P (sym whole-bursts) (bursts-end front) in
+          let all : (i : ℕ) → n ≤ i → notes_before i first ≡ first =
+          λ i from. all-noted w causal s 0 (length front) i ds spread ends (omega arith) in
+          ap (λ i. notes_before i (walked w s (bursts (whole ++ y)))) long
+          ∙ (ap (λ bs. notes_before (n + length y) (walked w s bs)) (both-bursts y)
+          ∙ (ap (notes_before (n + length y))
+          (walked-append w s ds (map (later n) (bursts y))
+          ∙ ap (λ l. first ++ l)
+          (walked-later w n moved Alike shifts (state_after w s ds) t (bursts y) alike))
+          ∙ (filter-append (λ q. nat_lt q.tick (n + length y)) first
+          (map (moved_note w n moved Alike shifts) (walked w t (bursts y)))
+          ∙ (ap (λ l. l ++ notes_before (n + length y)
+          (map (moved_note w n moved Alike shifts) (walked w t (bursts y))))
+          (all (n + length y) (omega arith) ∙ sym (all n (omega arith)))
+          ∙ ap (λ l. notes_before n first ++ l)
+          (before-moved w n moved Alike shifts (length y) (walked w t (bursts y)))))))
 
 -- ---- frames of notes
 

@@ -178,14 +178,10 @@ sealed-later n (unsealed_note start why) = refl
 
 -- ---- the line in two parts
 
-module _ (profile : Profile) (rules : Rules) (lawful : IsLawful rules) (tags : HasTags profile)
-    (front : List Tick) (k : ℕ) (enough : delay profile + 3 ≤ k) (floor now : ℕ)
-    (now_is : now ≡ last_number floor (sealed profile rules floor (front ++ silent k))) where
+module _ (profile : Profile) (rules : Rules) (tags : HasTags profile) (front : List Tick) (k : ℕ)
+    (floor : ℕ) where
   abbrev line : List Tick
   line = front ++ silent k
-
-  wide : 4 ≤ k
-  wide = omega arith
 
   abbrev ds : List Burst
   ds = bursts line
@@ -193,59 +189,17 @@ module _ (profile : Profile) (rules : Rules) (lawful : IsLawful rules) (tags : H
   ends : EndBy (length front) ds
   ends =
       let P : List Burst → Type 0 = λ bs. EndBy (length front) bs in
-      subst P (sym (whole-bursts front k wide)) (bursts-end front)
+      subst P (sym (whole-bursts front k)) (bursts-end front)
 
   size : length line ≡ length front + k
-  size = whole-long front k wide
+  size = whole-long front k
 
   gone : AreGone (length front + pause_len + trailer_len profile)
       (emitted_by (sealer profile rules) (at_floor floor) ds)
   gone = all-gone profile rules tags (length front) (at_floor floor) ds ends
 
-  gone-here : AreGone (length line) (emitted_by (sealer profile rules) (at_floor floor) ds)
-  gone-here i from more = let long = size in gone i (omega arith) more
-
-  number-is : (state_after (sealer profile rules) (at_floor floor) ds).floor ≡ now
-  number-is =
-      let long = size in
-      sym (all-numbers profile rules (at_floor floor) ds)
-      ∙ (ap (λ l. last_number floor (frames_in l))
-      (sym (all-noted (sealer profile rules) (sealer-causal profile rules lawful) (at_floor floor) 0
-      (length front) (length line) ds (bursts-spread line) ends (omega arith)))
-      ∙ sym now_is)
-
-  alike : Alike profile rules (length line)
-      (state_after (sealer profile rules) (at_floor floor) ds) (at_floor now)
-  alike =
-      let long = size in
-      let free = all-free profile rules (length front) (at_floor floor) ds ends (omega arith) in
-      (number-is, omega arith)
-
-  pub seals-on : (y : List Tick) → link_line profile rules floor (line ++ y)
-      ≡ link_line profile rules floor line ++ link_line profile rules now y
-  seals-on y = line-split front k wide (sealer profile rules) (sealer-causal profile rules lawful)
-      (moved (length line)) (Alike profile rules (length line)) (shifts profile rules (length line))
-      (at_floor floor) (at_floor now) alike gone-here y
-
-  pub sealed-on : (y : List Tick) → sealed profile rules floor (line ++ y)
-      ≡ sealed profile rules floor line
-      ++ map (frame_later (length line)) (sealed profile rules now y)
-  sealed-on y =
-      let w = sealer profile rules in
-      ap (λ l. frames_in l) (notes-split front k wide w (sealer-causal profile rules lawful)
-      (moved (length line)) (Alike profile rules (length line)) (shifts profile rules (length line))
-      (at_floor floor) (at_floor now) alike gone-here y)
-      ∙ (filter_map-append (λ q. sealed_in q.note) (notes_of w (at_floor floor) line)
-      (map (λ q. let r : Noted FullNote = record {
-        tick = length line + q.tick;
-        note = moved (length line) q.note;
-      } in r) (notes_of w (at_floor now) y))
-      ∙ ap (λ l. frames_in (notes_of w (at_floor floor) line) ++ l)
-      (frames-later (length line) (moved (length line)) sealed_in (sealed-later (length line))
-      (notes_of w (at_floor now) y)))
-
   -- The link is silent at the end of the line.
-  pub sent-quiet : (late : ℕ) → delay profile + 3 + late ≤ k
+  pub sent-quiet : (late : ℕ) → pause_len + trailer_len profile + late ≤ k
       → (x : List Tick) × (link_line profile rules floor line ≡ x ++ silent late)
   sent-quiet late fits =
       let es : List Burst = emitted_by (sealer profile rules) (at_floor floor) ds in
@@ -254,3 +208,50 @@ module _ (profile : Profile) (rules : Rules) (lawful : IsLawful rules) (tags : H
       let sum : length line ≡ b + late = omega arith in
       let from : AreGone b es = λ i past more. gone i (omega arith) more in
       (laid b es, ap (λ i. laid i es) sum ∙ laid-dark es [] b from late)
+
+  module _ (lawful : IsLawful rules) (enough : delay profile + 3 ≤ k) (now : ℕ)
+      (now_is : now ≡ last_number floor (sealed profile rules floor line)) where
+    wide : 4 ≤ k
+    wide = omega arith
+
+    gone-here : AreGone (length line) (emitted_by (sealer profile rules) (at_floor floor) ds)
+    gone-here i from more = let long = size in gone i (omega arith) more
+
+    number-is : (state_after (sealer profile rules) (at_floor floor) ds).floor ≡ now
+    number-is =
+        let long = size in
+        sym (all-numbers profile rules (at_floor floor) ds)
+        ∙ (ap (λ l. last_number floor (frames_in l))
+        (sym (all-noted (sealer profile rules) (sealer-causal profile rules lawful) (at_floor floor) 0
+        (length front) (length line) ds (bursts-spread line) ends (omega arith)))
+        ∙ sym now_is)
+
+    alike : Alike profile rules (length line)
+        (state_after (sealer profile rules) (at_floor floor) ds) (at_floor now)
+    alike =
+        let long = size in
+        let free = all-free profile rules (length front) (at_floor floor) ds ends (omega arith) in
+        (number-is, omega arith)
+
+    pub seals-on : (y : List Tick) → link_line profile rules floor (line ++ y)
+        ≡ link_line profile rules floor line ++ link_line profile rules now y
+    seals-on y = line-split front k wide (sealer profile rules) (sealer-causal profile rules lawful)
+        (moved (length line)) (Alike profile rules (length line)) (shifts profile rules (length line))
+        (at_floor floor) (at_floor now) alike gone-here y
+
+    pub sealed-on : (y : List Tick) → sealed profile rules floor (line ++ y)
+        ≡ sealed profile rules floor line
+        ++ map (frame_later (length line)) (sealed profile rules now y)
+    sealed-on y =
+        let w = sealer profile rules in
+        ap (λ l. frames_in l) (notes-split front k wide w (sealer-causal profile rules lawful)
+        (moved (length line)) (Alike profile rules (length line)) (shifts profile rules (length line))
+        (at_floor floor) (at_floor now) alike gone-here y)
+        ∙ (filter_map-append (λ q. sealed_in q.note) (notes_of w (at_floor floor) line)
+        (map (λ q. let r : Noted FullNote = record {
+          tick = length line + q.tick;
+          note = moved (length line) q.note;
+        } in r) (notes_of w (at_floor now) y))
+        ∙ ap (λ l. frames_in (notes_of w (at_floor floor) line) ++ l)
+        (frames-later (length line) (moved (length line)) sealed_in (sealed-later (length line))
+        (notes_of w (at_floor now) y)))

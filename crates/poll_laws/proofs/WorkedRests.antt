@@ -107,7 +107,8 @@ has-rested = record {
       given = refl;
     };
   };
-  sent = record { front = on_line READ_TEN_REGISTERS ++ silent 47; is = refl };
+  free = record { front = on_line READ_TEN_REGISTERS ++ silent 48; is = refl };
+  sent = record { front = on_line READ_TEN_REGISTERS ++ silent 51; is = refl };
   lagged = record { front = asked; is = refl };
   received = record { front = silent 34 ++ answer_packet; is = refl };
   link_bytes = link-ticks;

@@ -6,7 +6,7 @@ use Rattle.yasir_ticks.specs.declared.tick.Tick.{Tick}
 use Rattle.frame_ending.specs.Laid.{later}
 use Rattle.line_rules.specs.Rules.{Rules}
 use Rattle.link_format.specs.NumberedFrame.{NumberedFrame, last_number}
-use Rattle.link_format.specs.Profile.{delay}
+use Rattle.link_format.specs.Profile.{delay, pause_len, trailer_len}
 use Rattle.link_box.specs.Checking.{passed, received_line}
 use Rattle.link_box.specs.Sealing.{sealed}
 use Rattle.receiver_laws.specs.Untouched.{numbered}
@@ -41,12 +41,16 @@ abbrev pub begun : EndSetup → Before → EndSetup
 begun end before =
     record end { sent_floor = before.sent_floor; got_floor = before.got_floor }
 
--- Holds if a box whose journals have the floors of this set-up has driven its wires before,
--- whatever was on them, and has heard silence since for so long that nothing is on its way in it. A
--- burst that the receiver refuses lacks at most `most` bytes.
+-- Holds if a box whose journals have the floors of this set-up has driven its wires before, whatever
+-- was on them, and has heard silence since for so long that nothing is on its way in it: of the
+-- device until a frame may be sealed again, all trailers have left, and its gate has heard the end;
+-- and of the link until all has left that its receiver held back. A burst that this refuses lacks at
+-- most `most` bytes.
 pub record HasRested (rules : Rules) (most : ℕ) (end : EndSetup) (before : Before) : Type 0 where
   pub box : IsTwoWire rules (begun end before) before.wires
-  pub sent : EndsSilent (delay end.outgoing + 3 + end.late) (heard_device before.wires)
+  pub free : EndsSilent (delay end.outgoing + 3) (heard_device before.wires)
+  pub sent : EndsSilent (pause_len + trailer_len end.outgoing + end.late)
+      (heard_device before.wires)
   pub lagged : EndsSilent end.lag (heard_device before.wires)
   pub received : EndsSilent (delay end.incoming + most + end.late) (heard_link before.wires)
   pub link_bytes : AreTicks (heard_link before.wires)

@@ -52,9 +52,9 @@ pub fn several_devices_read_what_was_sealed()
 /// a box that has just begun with the floors that its journals have reached.
 ///
 /// Silence is long enough if the device's wires were silent for three ticks more than the delay of
-/// what it sends, and the link's for the delay of what it gets and a tick for each byte that a burst
-/// of the protocol can lack, and both besides for the ticks that what a box decides takes to leave.
-/// The gate must have heard the end of what the device said.
+/// what it sends, and for a trailer, the pause before it and the ticks that what a box decides takes
+/// to leave; and the link for the delay of what it gets, a tick for each byte that a burst of the
+/// protocol can lack, and those ticks. The gate must have heard the end of what the device said.
 pub fn rested_boxes_go_on<R: LineRules>()
     /// It holds for whatever comes then, if the gate of a box that has just begun would let all
     /// through that its receiver returns, and one that asks doesn't wait longer behind an answer than
