@@ -72,18 +72,18 @@ module _ (profile : Profile) (rules : Rules) where
   next-later n s t d (refused why) alike = (alike.0, omega arith)
   next-later n s t d (dropped why) alike = alike
 
-  delayed-later : (n i j : ℕ) (x : List Tick) → i ≡ j
+  delayed-later : (i j : ℕ) (x : List Tick) → i ≡ j
       → (let d : Burst = record { start = i; body = x } in d ∷ [])
       ≡ (let d : Burst = record { start = j; body = x } in d ∷ [])
-  delayed-later n i j x same = ap (λ a. let d : Burst = record { start = a; body = x } in d ∷ []) same
+  delayed-later i j x same = ap (λ a. let d : Burst = record { start = a; body = x } in d ∷ []) same
 
   emission-later : (n : ℕ) (d : Burst) (v : Verdict)
       → emission_by profile rules (later n d) v ≡ map (later n) (emission_by profile rules d v)
   emission-later n d (passed_with number) =
-      delayed-later n (delay profile + (n + d.start)) (n + (delay profile + d.start))
+      delayed-later (delay profile + (n + d.start)) (n + (delay profile + d.start))
       (live_ticks rules d) (omega arith)
   emission-later n d (refused why) =
-      delayed-later n (delay profile + (n + d.start)) (n + (delay profile + d.start))
+      delayed-later (delay profile + (n + d.start)) (n + (delay profile + d.start))
       (spoiled rules [] (filled_ticks rules d)) (omega arith)
   emission-later n d (dropped why) = refl
 
