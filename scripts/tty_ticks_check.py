@@ -9,10 +9,10 @@ built for use, with the sanitizers for addresses and undefined behaviour, and wi
 adapter wrong in the ways that PLANTED lists, one at a time, and fails if the part that is named there doesn't notice one.
 
 The program at the other end is this script too: it reads the stream of ticks, refuses a line that the grammar doesn't have, and tells
-each tick again in the same direction. A part in which something is wrong is run again, at most twice, since a machine that is busy may
-delay a byte for too long. It ends with 1 if a part was wrong each time, and with 2 if there is no C compiler. It is no part of the gate.
+each tick again in the same direction. A part in which something is wrong is run again, at most four times, since a machine that is busy
+may delay a byte for too long. It ends with 1 if a part was wrong each time, and with 2 if there is no C compiler. It is no part of the gate.
 """
-import concurrent.futures, fcntl, functools, os, re, select, signal, subprocess, sys, tempfile, threading, time
+import collections, concurrent.futures, fcntl, functools, os, re, select, signal, socket, subprocess, sys, tempfile, termios, threading, time
 
 import bridge_build
 from live_line import Port
@@ -25,7 +25,7 @@ TICK = 11 / BAUD
 RATE = ["-b", str(BAUD), "-P", "none", "-S", "2"]
 HOLD, PLAYOUT = 30, 70
 FRAME, REPLY, TRAILER = bytes.fromhex("01030000000ac5cd"), bytes.fromhex("0103020007f986"), bytes(range(0x40, 0x4e))
-TRIES, AT_ONCE = 3, 6
+TRIES, AT_ONCE = 5, 6
 # The most lines of code that the adapter may have, without comments and blank lines.
 LINES = 300
 BUILDS = {
@@ -33,6 +33,8 @@ BUILDS = {
     "addresses": ["-O1", "-g", "-fsanitize=address,undefined", "-fno-sanitize-recover=all"],
     "threads": ["-O1", "-g", "-fsanitize=thread"],
 }
+# A change of the adapter by which it takes a pseudo-terminal for a port that keeps its rate.
+KEEPS_RATE = ("p->has_rate = ioctl(p->fd, TIOCGSERIAL, &s) == 0;", "memset(&s, 0, sizeof s), p->has_rate = 1;")
 # Linked around the calls of `write` on a terminal: at most one byte is taken, or none.
 WRITES = r"""
 #include <errno.h>
@@ -46,7 +48,7 @@ ssize_t __wrap_write(int fd, const void *bytes, size_t size) {
 """
 # Words that are none, and texts that aren't lines of the stream.
 NO_WORDS = ("-b 9600x", "-b 9601", "-b ", "-b -9600", "-b 0x2580", "-b 96e2", "-S 3", "-S 1.", "-S 0", "-H 20ms", "-H -1", "-H nan",
-            "-H 99999999999", "-H 1001", "-D 2,5", "-D inf", "-P evenly", "-P e", "-P ", "-x")
+            "-H 99999999999", "-H 1001", "-D 2,5", "-D inf", "-2 1ms", "-2 -1", "-P evenly", "-P e", "-P ", "-x")
 NO_LINES = (r">+0\n", r">+\n", r">-\n", r">-0\n", r">-1000001\n", r">-1x\n", r">-99999999999999999999\n", r"+01\n", r"=+01\n", r">+0g\n",
             r">+01 \n", r">\n", r"\n", ">+" + "01" * 33 + r"\n", r">+01\r\n", r">+01\x00\n", r">+AB\n", r">+010", "z" * 9000)
 LINE = re.compile(rb"[<>](\+(?:[0-9a-f]{2}){1,32}|-[1-9][0-9]{0,6}|#.*)\n\Z")
@@ -75,14 +77,27 @@ def tell(content):
         content = content[os.write(1, content):]
 
 
+class Later:
+    """Tells the ticks of a direction as many ticks later as it is made for, and what it has left at the end."""
+
+    def __init__(self, way, ticks):
+        self.way, self.kept = way, collections.deque([None] * ticks)
+
+    def text_of(self, ticks):
+        return b"".join(b"%s-1\n" % self.way if tick is None else b"%s+%02x\n" % (self.way, tick) for tick in ticks)
+
+    def take(self, text):
+        ticks = list(bytes.fromhex(text[2:].decode())) if text[1:2] == b"+" else [None] * int(text[2:])
+        self.kept.extend(ticks)
+        return self.text_of(self.kept.popleft() for _ in ticks)
+
+
 def line(log, mode, *words):
     """Tells each tick again, and keeps in `log` what it read. At the first byte it does what `mode` says."""
-    did, behind = False, {b">": [], b"<": []}
+    did, later = False, {way: Later(way, int(words[0]) if mode == "behind" else 0) for way in (b">", b"<")}
     if mode == "deaf":
         fcntl.fcntl(0, fcntl.F_SETPIPE_SZ, 4096)
         time.sleep(30)
-    if mode == "behind":
-        tell(b">-%s\n<-%s\n" % (words[0].encode(), words[0].encode()))
     with open(log, "ab", buffering=0) as file:
         for text in lines_of_input():
             file.write(text)
@@ -97,26 +112,34 @@ def line(log, mode, *words):
                         os.write(2, b"note %d of this program\n" % number)
                 elif mode == "ends":
                     sys.exit(int(words[0]))
-            if mode == "behind":
-                behind[text[:1]].append(text)
-            tell(text)
-    if mode == "stays":
+            tell(later[text[:1]].take(text) if mode == "behind" else text)
+    if mode == "behind":
+        for each in later.values():
+            tell(each.text_of(each.kept))
+    if mode == "closes":
+        os.close(1)
+        os.close(2)
+    if mode in ("stays", "closes"):
         time.sleep(30)
 
 
 # ---- a run of the adapter
 
+def line_words(log, mode, *words):
+    return [sys.executable, os.path.abspath(__file__), "line", log, mode, *map(str, words)]
+
+
 class Run:
     """A run of the adapter, and what comes out of its two ports, each byte with the time at which it came."""
 
-    def __init__(self, tried, mode, *words, more=(), program=None, rate=RATE, echo=False, stderr=None, closed=()):
+    def __init__(self, tried, mode, *words, more=(), program=None, rate=RATE, echo=0, stderr=None, closed=()):
         self.folder = tempfile.mkdtemp(dir=tried.folder)
         self.device, self.link = Port(TICK), Port(TICK)
         self.came, self.stopping = {self.device: [], self.link: []}, threading.Event()
         self.log, self.echo = os.path.join(self.folder, "told"), echo
         open(self.log, "w").close()
         self.errors = os.path.join(self.folder, "errors")
-        program = program or [sys.executable, os.path.abspath(__file__), "line", self.log, mode, *map(str, words)]
+        program = program or line_words(self.log, mode, *words)
         words = [tried.adapter, *rate, "-H", str(HOLD), "-D", str(PLAYOUT), *more, self.device.path, self.link.path, "--", *program]
         with open(self.errors, "wb") as errors:
             self.run = subprocess.Popen(words, stdin=subprocess.DEVNULL, stdout=subprocess.DEVNULL, stderr=stderr or errors,
@@ -139,8 +162,7 @@ class Run:
                         continue
                     self.came[port] += [(byte, at) for byte in content]
                     if self.echo and port is self.link:
-                        time.sleep(TICK / 4)
-                        os.write(port.here, content)
+                        threading.Timer(self.echo * TICK, os.write, (port.here, content)).start()
 
     def told(self):
         with open(self.log, "rb") as file:
@@ -261,19 +283,38 @@ def pauses(tried):
 
 def times(tried):
     """A port without a rate of its own gets no byte before its time, and a pause stays one."""
-    run = Run(tried, "pass")
+    run, delay = Run(tried, "pass"), (HOLD + PLAYOUT) / 1000
+    sent = []
     for _ in range(3):
-        run.send(run.link, (60, FRAME), (len(FRAME) + 3, TRAILER))
+        sent.append(run.send(run.link, (60, FRAME), (len(FRAME) + 3, TRAILER)))
         time.sleep(TICK * 60)
     status, said = run.end()
     come, size = run.came[run.device], len(FRAME) + len(TRAILER)
     whole = status == 0 and run.bytes(run.device) == (FRAME + TRAILER) * 3
     tried.see(whole, "three packets were played: %s" % said[-300:])
-    for first in range(0, len(come) - size + 1, size):
-        part = come[first:first + size]
-        early = max(place + (3 if place >= len(FRAME) else 0) - (at - part[0][1]) / TICK for place, (_, at) in enumerate(part))
-        pause = gaps_of(part)[len(FRAME) - 1]
-        tried.see(early < 0.5 and 2.6 < pause < 7, "no byte came early (%.2f ticks), and the pause is %.2f ticks" % (early, pause))
+    found = []
+    for number, at in enumerate(sent if whole else ()):
+        part = come[number * size:(number + 1) * size]
+        early = max(place + (3 if place >= len(FRAME) else 0) - (came - at - delay) / TICK for place, (_, came) in enumerate(part))
+        tried.see(early < 0.5, "no byte came early (%.2f ticks)" % early)
+        found.append(gaps_of(part)[len(FRAME) - 1])
+    # on a busy machine the bytes are read late here, so not each pause can be seen
+    tried.see(any(2.6 < pause < 7 for pause in found), "a pause of %s ticks" % ", ".join("%.2f" % pause for pause in found))
+
+
+def blocks(tried):
+    """On a port that keeps its rate, bytes that are read at once came one a tick. On another one they came just then."""
+    frame = bytes(range(0x60, 0x6a))
+    for changes in ((KEEPS_RATE,), ()):
+        run = Run(tried.with_changes(*changes), "pass", more=("-H", "120"))
+        run.send(run.device, (40, frame[:1]), (1, frame[1:2]), (1, frame[2:3]), (7, frame[3:]))
+        time.sleep(TICK * 40)
+        status, said = run.end()
+        ticks = run.ticks(b">")
+        first = ticks.index(frame[0]) if frame[0] in ticks else 0
+        together = None not in ticks[first:first + len(frame)]
+        tried.see(status == 0 and run.heard(b">") == frame and together == bool(changes),
+                  "with %d changes it was told %s: %s" % (len(changes), "in a row" if together else "with a gap", said[-200:]))
 
 
 def late(tried):
@@ -344,8 +385,8 @@ def gone(tried):
 
 def words(tried):
     """A port that can't do the parity that is asked for is refused, and so are words that are none."""
-    port = Port(TICK)
-    ends = [port.path, port.path, "--", "true"]
+    port, other = Port(TICK), Port(TICK)
+    ends = [port.path, other.path, "--", "true"]
 
     def status(*more):
         ran = subprocess.run([tried.adapter, *more], capture_output=True, text=True, timeout=10)
@@ -363,7 +404,83 @@ def words(tried):
     tried.see(status("-P", "none", "/dev/null", *ends[1:])[0] == 3, "a file that is no port is refused")
     tried.see(status("-P", "none", "-R", *ends)[0] == 3, "a port whose driver doesn't switch RS-485 is refused")
     tried.see(status("-P", "none", *ends[:3], "/nowhere/program")[0] == 127, "a program that isn't there is status 127")
-    port.close()
+    tried.see(status("-P", "none", *ends[:3], "unix:/nowhere/socket")[0] == 3, "a socket that isn't there is refused")
+    port.close(), other.close()
+
+
+def ports(tried):
+    """A port that another run has is refused, and so is one as both ports. No setting that a port had before adds bytes or changes them."""
+    run = Run(tried, "pass")
+    spare = Port(TICK)
+    for ends in ((run.device.path, spare.path), (spare.path, run.link.path), (spare.path, spare.path)):
+        ran = subprocess.run([tried.adapter, *RATE, *ends, "--", "true"], capture_output=True, text=True, timeout=10)
+        tried.see(ran.returncode == 3 and "another run has it" in ran.stderr, "status %d, %s" % (ran.returncode, ran.stderr.strip()))
+    spare.close()
+    run.send(run.device, (40, FRAME))
+    run.wait_for(lambda: run.bytes(run.link) == FRAME)
+    tried.see(run.end()[0] == 0 and run.bytes(run.link) == FRAME, "the run that has them goes on")
+    port, other = Port(TICK), Port(TICK)
+    was = termios.tcgetattr(port.there)
+    was[0] |= termios.IXOFF | termios.IXANY | termios.IXON | termios.ISTRIP | termios.INLCR | termios.PARMRK | termios.BRKINT
+    was[1] |= termios.OPOST | termios.ONLCR
+    was[3] |= termios.ECHO | termios.ICANON | termios.ISIG
+    termios.tcsetattr(port.there, termios.TCSANOW, was)
+    begun = subprocess.Popen([tried.adapter, *RATE, port.path, other.path, "--", "sleep", "30"], stdin=subprocess.DEVNULL,
+                             stderr=subprocess.DEVNULL)
+    time.sleep(0.5)
+    now = termios.tcgetattr(port.there)
+    begun.kill()
+    begun.wait()
+    port.close(), other.close()
+    tried.see(now[0] == termios.INPCK | termios.IGNPAR | termios.IGNBRK and not now[1] & termios.OPOST
+              and not now[3] & (termios.ECHO | termios.ICANON | termios.ISIG), "the settings are %x %x %x" % (now[0], now[1], now[3]))
+
+
+def ahead(tried):
+    """A tick that the program tells before it was heard ends the adapter, and isn't played."""
+    for text in (r">-1000000\n>+77\n", r"<-500\n", r">+" + "77" * 32 + r"\n" * 1):
+        run = Run(tried, "tells", text if text.startswith(r"<") else text * 40)
+        run.send(run.device, (30, FRAME))
+        ended = run.wait_for(lambda: run.run.poll() is not None, 2)
+        status, said = run.end()
+        tried.see(ended and status == 4 and "it told a tick that wasn't heard yet" in said, "%.20s: status %d: %s" % (text, status, said[-200:]))
+
+
+def joined(tried):
+    """A program at a socket is told and played as any other. It is told of a stop, and its end is a fault."""
+    for mode, words, expected in (("behind", (60,), 0), ("ends", (0,), 4)):
+        folder = tempfile.mkdtemp(dir=tried.folder)
+        path, log = os.path.join(folder, "socket"), os.path.join(folder, "told")
+        with socket.socket(socket.AF_UNIX) as server:
+            server.bind(path)
+            server.listen(1)
+            server.settimeout(10)
+            begun = []
+
+            def serve():
+                here, _ = server.accept()
+                begun.append(subprocess.Popen(line_words(log, mode, *words), stdin=here, stdout=here, stderr=subprocess.DEVNULL))
+                here.close()
+
+            thread = threading.Thread(target=serve, daemon=True)
+            thread.start()
+            run = Run(tried, None, program=["unix:" + path])
+            run.log = log
+            run.wait_for(lambda: os.path.exists(log) and run.told() != b"")
+            run.send(run.device, (40, FRAME))
+            time.sleep(0.2)
+            if mode == "ends":
+                run.wait_for(lambda: run.run.poll() is not None)
+            before = run.bytes(run.link)
+            status, said = run.end()
+            thread.join()
+            for program in begun:
+                program.kill()
+                program.wait()
+        played, right = run.bytes(run.link), FRAME if mode == "behind" else b""
+        tried.see(status == expected and len(before) < 8 and played == right, "%s: status %d, %d bytes before the stop, %d in all: %s"
+                  % (mode, status, len(before), len(played), said[-200:]))
+        tried.see(mode == "behind" or "the program: it ended" in said, "that it ended is said: %s" % said[-200:])
 
 
 def bad_lines(tried):
@@ -429,19 +546,20 @@ def vanished(tried):
 
 
 def two_wires(tried):
-    """On two wires what is sent comes back, and isn't heard. What comes after it is."""
-    for more in ((), ("-2",)):
-        run = Run(tried, "pass", more=more, echo=True)
+    """On two wires what is sent comes back, and isn't heard, nor if it comes back late and that is allowed for. What comes later is."""
+    for echo, more in ((0.25, ()), (0.25, ("-2", "20")), (20, ("-2", "300"))):
+        run = Run(tried, "pass", more=more, echo=echo)
         run.send(run.device, (40, FRAME))
         run.wait_for(lambda: len(run.bytes(run.link)) >= len(FRAME))
-        run.send(run.link, (10, REPLY))
+        time.sleep(TICK * (echo + 20) + 0.3)
+        run.send(run.link, (0, REPLY))
         run.wait_for(lambda: run.bytes(run.device).endswith(REPLY))
         time.sleep(0.2)
         status, said = run.end()
         heard = run.heard(b"<")
         if more:
             right = status == 0 and heard == REPLY and run.bytes(run.link) == FRAME
-            tried.see(right, "with -2 it hears the reply alone: %s %s" % (heard.hex(), said[-200:]))
+            tried.see(right, "with %s it hears the reply alone: %s %s" % (" ".join(more), heard.hex(), said[-200:]))
         else:
             tried.see(status == 0 and heard.startswith(FRAME), "without -2 it hears what it sent: %s" % heard.hex())
 
@@ -463,19 +581,20 @@ def parts_of_writes(tried):
 def unending(tried):
     """A program that doesn't read, or doesn't end, doesn't keep the adapter from ending."""
     hasty = tried.with_changes(("END_MS = 10000", "END_MS = 500"), ("TEXT = 1 << 16", "TEXT = 512"))
-    run = Run(hasty, "stays")
-    run.send(run.device, (40, FRAME))
-    run.wait_for(lambda: run.bytes(run.link) == FRAME)
-    status, said = run.end(5)
-    tried.see(status == 4 and "it doesn't end" in said, "status %d: %s" % (status, said[-300:]))
+    for mode in ("stays", "closes"):
+        run = Run(hasty, mode)
+        run.send(run.device, (40, FRAME))
+        run.wait_for(lambda: run.bytes(run.link) == FRAME)
+        status, said = run.end(5)
+        tried.see(status == 4 and (mode == "closes" or "it doesn't end" in said), "%s: status %d: %s" % (mode, status, said[-300:]))
     run = Run(hasty, "deaf")
     ended = run.wait_for(lambda: run.run.poll() is not None, 12)
     status, said = run.end()
     tried.see(ended and status == 4 and "it doesn't read" in said, "status %d: %s" % (status, said[-300:]))
 
 
-PARTS = [both_ways, pauses, times, late, too_late, notes, gone, words, bad_lines, stop, flood, vanished, two_wires, parts_of_writes,
-         unending]
+PARTS = [both_ways, pauses, times, blocks, late, too_late, notes, gone, words, ports, bad_lines, ahead, joined, stop, flood, vanished,
+         two_wires, parts_of_writes, unending]
 
 
 # ---- the adapter, right and wrong
@@ -488,7 +607,8 @@ PLANTED = [
     ("the directions of what is told exchanged", both_ways, [("&ports[line[0] == '>']", "&ports[line[0] == '<']")]),
     ("all directions exchanged", both_ways, [("&ports[line[0] == '>']", "&ports[line[0] == '<']"),
         ("p->is_link ? '<' : '>'", "p->is_link ? '>' : '<'")]),
-    ("what it sent is heard", two_wires, [("opt.two_wire && came", "0 && came")]),
+    ("what it sent is heard", two_wires, [("opt.deaf >= 0 && at <", "0 && at <")]),
+    ("what it sent is heard if it comes back late", two_wires, [(" + opt.deaf * MS", "")]),
     ("a pause of two ticks", pauses, [("take = p->silents >= 3", "take = p->silents >= 2")]),
     ("a gap of 2.2 ticks is a pause", pauses, [("len * 5 / 2", "len * 7 / 4")]),
     ("any gap is a pause", pauses, [("apart && gap <= len * 13 / 2", "apart")]),
@@ -497,16 +617,23 @@ PLANTED = [
     ("bytes leave before their time", times, [("p->has_rate ? 2 * len : 0", "6 * len")]),
     ("what comes too late is played", too_late, [("t - at > LATE_MS * MS", "0")]),
     ("bytes of a write that was cut are lost", parts_of_writes, [("drop(&p->play, (size_t)done)", "drop(&p->play, n)")]),
-    ("a queue that is full goes on", flood, [('return fail(p->path, "it brings more than its rate");', "return;")]),
+    ("a queue that is full goes on", flood, [('fail(p->path, "it brings more than its rate");', ";")]),
+    ("bytes that are read at once came just then", blocks, [("p->has_rate ? came - (got - 1 - i) * len : came", "came")]),
     ("a stop cuts what is played", stop, [(" && a->play.count + b->play.count == 0", "")]),
-    ("a stop isn't told to the program", stop, [("close(to_program), to_program = -1", "to_program = -1")]),
-    ("a port that is gone is left alone", vanished, [('if (got <= 0) lose_port(p, "the port is gone");', "")]),
-    ("notes hold up the line", notes, [('open("/proc/self/fd/2", O_WRONLY | O_NONBLOCK | O_APPEND | O_CLOEXEC)', "dup(2)")]),
+    ("a stop isn't told to the program", stop, [("shutdown(to_program, SHUT_WR), close(to_program), ", "")]),
+    ("a stop isn't told to a program at a socket", joined, [("shutdown(to_program, SHUT_WR), ", "")]),
+    ("a program at a socket may end", joined, [('fail("the program", "it ended")', "(void)(stopping = 1)")]),
+    ("a port that is gone is left alone", vanished, [(' lose_port(p, "the port is gone");', ";")]),
+    ("notes hold up the line", notes, [("O_WRONLY | O_NONBLOCK | O_APPEND | O_NOCTTY", "O_WRONLY | O_APPEND | O_NOCTTY")]),
     ("a reader of notes that is gone ends it", gone, [("signal(SIGPIPE, SIG_IGN)", "signal(SIGPIPE, SIG_DFL)")]),
     ("a port that can't do the parity is taken", words, [("((is.c_cflag ^ t.c_cflag) & asked) || ", "")]),
     ("numbers are read in part", words, [('strspn(word, "0123456789") == n && ', "")]),
-    ("a line that is none is passed over", bad_lines, [('if (is_none) fail("the program", "it told a line that is none");', "is_none = 0;")]),
-    ("parity isn't checked", None, [("checked = INPCK | IGNPAR", "checked = 0")]),
+    ("a line that is none is passed over", bad_lines, [('if (wrong) return fail("the program", wrong);', "if (wrong) { wrong = NULL; return; }")]),
+    ("ticks that weren't heard may be told", ahead, [("p->ticks + ticks > next_tick", "0 && p->ticks + ticks > next_tick")]),
+    ("a program that doesn't end is waited for", unending, [("waitpid(child, &status, WNOHANG)", "waitpid(child, &status, 0)")]),
+    ("a port that another run has is taken", ports, [("flock(p->fd, LOCK_EX | LOCK_NB) != 0", "0")]),
+    ("settings that a port had before stay", ports, [("t.c_iflag = INPCK | IGNPAR | IGNBRK", "t.c_iflag |= INPCK | IGNPAR | IGNBRK")]),
+    ("parity isn't checked", ports, [("t.c_iflag = INPCK | IGNPAR | IGNBRK", "t.c_iflag = IGNPAR | IGNBRK")]),
     ("the driver holds bytes back", None, [('fputs("1", f)', 'fputs("14", f)')]),
     ("the driver isn't told to switch RS-485", None, [("ioctl(p->fd, TIOCSRS485, &r) != 0", "ioctl(p->fd, TIOCGRS485, &r) != 0")]),
 ]
@@ -547,7 +674,7 @@ class Compiler:
 
 
 def is_right(compiler, part, *how):
-    """Whether nothing is wrong in a part, or nothing the next time or the one after, and what was seen in the last run."""
+    """Whether nothing is wrong in a part, or nothing in one of the next runs, and what was seen in the last run."""
     for _ in range(TRIES):
         tried = compiler.tried(*how)
         part(tried)
