@@ -3,7 +3,7 @@
 
     python3 scripts/bridge_build.py
 
-It needs a C compiler (CC, or cc if CC isn't set), and libmodbus for bridge/out/server. The library is proved first, and isn't
+The adapter tty_ticks uses no library, so it is built first. It needs a C compiler (CC, or cc if CC isn't set), and libmodbus for bridge/out/server. The library is proved first, and isn't
 built if a proof fails. The exit status is 0 if all was built, and 2 if something isn't installed or can't be built, which is named.
 """
 import os, shutil, subprocess, sys, time
@@ -84,6 +84,14 @@ def build(name, path=None, more=()):
     return path
 
 
+def adapter():
+    """Builds the adapter between two serial ports and one stream, and returns its path."""
+    os.makedirs(OUT, exist_ok=True)
+    path = os.path.join(OUT, "tty_ticks")
+    ran([compiler(), *FLAGS, os.path.join(BRIDGE, "tty_ticks.c"), "-o", path])
+    return path
+
+
 def server():
     """Builds the server, which uses libmodbus, and returns its path."""
     os.makedirs(OUT, exist_ok=True)
@@ -96,6 +104,7 @@ def server():
 
 
 def main():
+    print(adapter())
     for name in PROGRAMS:
         print(build(name))
     print(server())

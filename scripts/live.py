@@ -1,11 +1,12 @@
 #!/usr/bin/env python3
 """Shows a live line on one machine: mbpoll reads registers of a libmodbus server through four boxes, under attack.
 
-    python3 scripts/live.py [SECONDS]
+    python3 scripts/live.py [SECONDS] [--over PROGRAM]
 
 The line is mbpoll - bridge - attacker - bridge - server, over pseudo-terminals at 9,600 baud with even parity, with both directions
 sealed. mbpoll writes a register and reads all ten, while the attacker does ten sorts of things in turn, for at least
-SECONDS seconds (40 if not given). The value that the attacker tries to get into a register is never one that mbpoll writes.
+SECONDS seconds (40 if not given). A bridge is the daemon or, with `--over`, the adapter tty_ticks and behind it PROGRAM, which has the
+words `live line`. The value that the attacker tries to get into a register is never one that mbpoll writes.
 
 The exit status is 0 only if polls were answered, each sort of attack was done at least once, no attack changed a register, and the
 journals have the numbers that the notes say were sealed and passed, and 2 if something isn't installed. It is no part of the gate.
@@ -13,7 +14,7 @@ journals have the numbers that the notes say were sealed and passed, and 2 if so
 import os, re, shutil, subprocess, sys, tempfile, time
 
 import bridge_build
-from live_line import SORTS, Bridges, Port, link_of, make_key, started
+from live_line import SORTS, Bridges, Port, ends_of, link_of, make_key, started
 from model import Rtu
 
 ROOT = os.path.dirname(os.path.dirname(os.path.abspath(__file__)))
@@ -34,7 +35,7 @@ class Session(Bridges):
     """One uptime of both bridges, with mbpoll at one end and the server at the other, each behind a plain wire."""
 
     def __init__(self, folder, programs, old, make):
-        super().__init__(programs["bridge"], folder, LINK, old, make)
+        super().__init__(programs["ends"], folder, LINK, old, make)
         self.master, self.slave = Port(LINK.tick), Port(LINK.tick)
         self.ports += [self.master, self.slave]
         for one, other in ((self.master, self.a_device), (self.b_device, self.slave)):
@@ -67,8 +68,8 @@ class Session(Bridges):
         return False, []
 
 
-def built():
-    """Builds the server and the bridge, and returns their paths. Names what isn't installed before the library is proved, which takes long."""
+def built(words):
+    """Builds the server and the bridge, and returns their paths and the other words. Names what isn't installed before the library is proved, which takes long."""
     missing, programs = [] if shutil.which("mbpoll") else ["mbpoll isn't installed: apt-get install mbpoll"], {}
     for needed in (bridge_build.kit, bridge_build.server):
         try:
@@ -77,8 +78,8 @@ def built():
             missing.append(str(why))
     if missing:
         raise bridge_build.Missing("\n".join(missing))
-    programs["bridge"] = bridge_build.build("bridge")
-    return programs
+    words, programs["ends"] = ends_of(words)
+    return words, programs
 
 
 def first_session(folder, programs, see):
@@ -145,7 +146,7 @@ def notes_of(folder, end, words):
     """The path of a file with the notes that begin with one of these words, of those that a bridge wrote."""
     path = os.path.join(folder, "%s.%s.notes" % (end, words[0]))
     with open(os.path.join(folder, end + ".log")) as log, open(path, "w") as notes:
-        notes.writelines(line for line in log if line.split(" ")[0] in words)
+        notes.writelines(line.lstrip("<>") for line in log if line.lstrip("<>").split(" ")[0] in words)
     return path
 
 
@@ -172,8 +173,8 @@ def draw(folder, see):
 
 
 def main():
-    seconds = float(sys.argv[1]) if len(sys.argv) > 1 else 40
-    programs, wrong = built(), []
+    words, programs = built(sys.argv[1:])
+    seconds, wrong = float(words[0]) if words else 40, []
 
     def see(holds, what):
         print("%s %s" % ("  ok  " if holds else "WRONG ", what), flush=True)

@@ -1,11 +1,12 @@
 #!/usr/bin/env python3
 """Runs the daemon of bridge/ over both protocols and profiles, at two rates, between a master and a device of its own.
 
-    python3 scripts/live_kinds.py [KIND..] [BAUD..]
+    python3 scripts/live_kinds.py [KIND..] [BAUD..] [--over PROGRAM]
 
 KIND is rtu, dnp3, rtu24 or dnp24, and BAUD is 9600 or 115200. Without them all kinds and rates are run. As in live.py, the line of
 each is a master, a bridge, an attacker, a bridge and a device, over pseudo-terminals. The device counts bytes: it
-takes as many as a request has, and acts on them at once. In a first session nobody attacks. In a second one, with the same journals,
+takes as many as a request has, and acts on them at once. With `--over` the adapter tty_ticks stands in the daemon's place, and behind
+it PROGRAM, which has the words `live line`. In a first session nobody attacks. In a second one, with the same journals,
 ten sorts of things are done to the requests.
 
 The exit status is 0 only if each poll without an attack was answered (in up to 25 tries: a byte that this machine hands on too late
@@ -16,7 +17,7 @@ part of the gate.
 import sys, tempfile, time
 
 import bridge_build
-from live_line import SORTS, Bridges, link_of, make_key
+from live_line import SORTS, Bridges, ends_of, link_of, make_key
 from model import Dnp3, Rtu
 
 KINDS, RATES = ("rtu", "dnp3", "rtu24", "dnp24"), (9600, 115200)
@@ -38,9 +39,9 @@ class Session(Bridges):
     """One uptime of both bridges between a master and a device, and what came to the device. `first` is the number of the master's
     first request."""
 
-    def __init__(self, program, folder, link, old, make, first):
+    def __init__(self, programs, folder, link, old, make, first):
         self.given, self.asked, self.replies, self.first = b"", [], b"", first
-        super().__init__(program, folder, link, old, make)
+        super().__init__(programs, folder, link, old, make)
         self.size = len(link.evil)
         self.run(self.serve)
 
@@ -89,7 +90,7 @@ def under_attack(session):
     return None not in (before, session.surely(3000)), polls, answered
 
 
-def tried(program, kind, baud):
+def tried(programs, kind, baud):
     """Runs one kind at one rate. Returns what was wrong, and prints it and what was seen."""
     parity = "even" if kind.startswith("rtu") else "none"
     link, wrong = link_of(kind, baud, parity, request_of(kind, 0, EVIL)), []
@@ -101,7 +102,7 @@ def tried(program, kind, baud):
 
     with tempfile.TemporaryDirectory() as folder:
         make_key(folder)
-        session = Session(program, folder, link, [], True, 1)
+        session = Session(programs, folder, link, [], True, 1)
         begun, tries = time.monotonic(), [session.surely(1000 + number) for number in range(POLLS)]
         seconds = time.monotonic() - begun
         old, statuses = list(session.attacker.seen["ab"]), session.end()
@@ -111,7 +112,7 @@ def tried(program, kind, baud):
         see(session.device_got_requests_alone(), "the device got bytes that are no requests: %s" % session.given.hex())
         if not old:
             return wrong
-        session = Session(program, folder, link, old, False, 1000)
+        session = Session(programs, folder, link, old, False, 1000)
         both, polls, answered = under_attack(session)
         done = session.attacker.done
         see(session.end() == [0, 0], "a bridge ended with a status other than 0")
@@ -129,14 +130,14 @@ def tried(program, kind, baud):
 
 
 def main():
-    words = sys.argv[1:]
+    words = [word for place, word in enumerate(sys.argv) if place > 0 and "--over" not in sys.argv[place - 1:place + 1]]
     kinds = [word for word in words if word in KINDS] or KINDS
     rates = [int(word) for word in words if word.isdecimal() and int(word) in RATES] or RATES
     if len([word for word in words if word not in KINDS and word not in map(str, RATES)]):
         print(__doc__.strip(), file=sys.stderr)
         return 1
-    program = bridge_build.build("bridge")
-    wrong = [what for kind in kinds for baud in rates for what in tried(program, kind, baud)]
+    _, programs = ends_of(sys.argv[1:])
+    wrong = [what for kind in kinds for baud in rates for what in tried(programs, kind, baud)]
     return 1 if wrong else 0
 
 

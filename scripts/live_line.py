@@ -1,12 +1,19 @@
 """The parts of a live line on one machine, for live.py and live_kinds.py: pseudo-terminals, the two bridges, an attacker on the link
 between them, and what the journals and notes say afterwards.
+
+A bridge is the daemon of bridge/ or, with `--over PROGRAM`, a pair: the adapter tty_ticks, and a program that has the words of
+`live line P DIR KEY SENT GOT` and `init P DIR JOURNAL`.
 """
 import collections, os, pty, re, select, signal, subprocess, sys, threading, time, tty
 
+import bridge_build
 from killed import floor_of
 
 PAUSE = 3
 SORTS = ("change", "repeat", "cut", "insert", "reorder", "reflect", "old session", "forge", "strip", "pause")
+
+# A bridge: the daemon, or the adapter and the program behind it. One of them is None.
+Ends = collections.namedtuple("Ends", "daemon adapter program")
 
 # A link: the protocol and profile as the bridge's -p takes them, the baud, the seconds of a tick, how many bytes a trailer has, the
 # parity, and a frame that the attacker wants the device to carry out.
@@ -15,6 +22,14 @@ Link = collections.namedtuple("Link", "kind baud tick trailer parity evil")
 
 def link_of(kind, baud, parity, evil):
     return Link(kind, baud, (10 if parity == "none" else 11) / baud, 20 if kind.endswith("24") else 14, parity, evil)
+
+
+def ends_of(words):
+    """What stands at the ends of the link by these words of a script, and the other words."""
+    if "--over" not in words[:-1]:
+        return words, Ends(bridge_build.build("bridge"), None, None)
+    at = words.index("--over")
+    return words[:at] + words[at + 2:], Ends(None, bridge_build.adapter(), os.path.abspath(words[at + 1]))
 
 
 class Port:
@@ -147,7 +162,7 @@ class Bridges:
     """One uptime of both bridges, with the attacker between them. `a_device` and `b_device` are the ports of the two devices. All ports
     are closed at the end, after the programs in `others` have ended."""
 
-    def __init__(self, program, folder, link, old, make):
+    def __init__(self, programs, folder, link, old, make):
         self.folder, self.link, self.stopping = folder, link, threading.Event()
         self.ports, self.others = [Port(link.tick) for _ in range(4)], []
         self.a_device, self.a_link, self.b_link, self.b_device = self.ports
@@ -156,7 +171,7 @@ class Bridges:
         self.run(self.attacker.run, "ab", self.a_link, self.b_link)
         self.run(self.attacker.run, "ba", self.b_link, self.a_link)
         ends = ("a", "ab", self.a_device, self.a_link), ("b", "ba", self.b_device, self.b_link)
-        self.bridges = [started(self.words(program, link, *end, make), self.log(end[0])) for end in ends]
+        self.bridges = [started(self.words(programs, link, *end, make), self.log(end[0])) for end in ends]
         time.sleep(1.5)
         if any(bridge.poll() is not None for bridge in self.bridges):
             self.end()
@@ -166,18 +181,29 @@ class Bridges:
         self.threads.append(threading.Thread(target=target, args=words, daemon=True))
         self.threads[-1].start()
 
-    def words(self, program, link, end, direction, device, to_link, make):
-        path = os.path.join(self.folder, end)
-        words = [program, "-k", os.path.join(self.folder, "key.txt"), "-s", path + ".sent", "-r", path + ".got", "-d", direction,
-                 "-p", link.kind, "-b", str(link.baud), "-P", link.parity, "-H", "25", "-D", "40", "-w", path]
-        return words + (["-i"] if make else []) + [device.path, to_link.path]
+    def words(self, programs, link, end, direction, device, to_link, make):
+        path, key = os.path.join(self.folder, end), os.path.join(self.folder, "key.txt")
+        line = ["-b", str(link.baud), "-H", "25", "-D", "40"]
+        if programs.daemon:
+            words = [programs.daemon, "-k", key, "-s", path + ".sent", "-r", path + ".got", "-d", direction, "-p", link.kind, *line,
+                     "-P", link.parity]
+            return words + ["-w", path] + (["-i"] if make else []) + [device.path, to_link.path]
+        for kept, way in ((".sent", direction), (".got", "ba" if direction == "ab" else "ab")) if make else ():
+            subprocess.run([programs.program, "init", link.kind, way, path + kept], check=True)
+        # the adapter refuses a pseudo-terminal that is asked for parity, so a second stop bit stands for it
+        line += ["-P", "none", "-S", "1" if link.parity == "none" else "2"]
+        # both streams are recorded on their way
+        recorded = ["bash", "-o", "pipefail", "-c", 'in=$1 out=$2; shift 2; tee "$in" | "$@" | tee "$out"', "bash", path + ".in", path + ".out"]
+        program = [programs.program, "live", "line", link.kind, direction, key, path + ".sent", path + ".got"]
+        return [programs.adapter, *line, device.path, to_link.path, "--", *recorded, *program]
 
     def log(self, name):
         return os.path.join(self.folder, name + ".log")
 
     def text(self, name):
+        """What a program wrote, each note without the letter of its direction."""
         with open(self.log(name)) as file:
-            return file.read()
+            return re.sub(r"^[<>]", "", file.read(), flags=re.M)
 
     def end(self):
         """Ends both bridges, the threads and the other programs, and returns the statuses of the bridges. If a thread doesn't end in time,
@@ -188,10 +214,22 @@ class Bridges:
             thread.join(timeout=2)
         for other in self.others:
             ended(other)
+        for end in ("a", "b"):
+            self.part(os.path.join(self.folder, end))
         if not any(thread.is_alive() for thread in self.threads):
             for port in self.ports:
                 port.close()
         return statuses
+
+    def part(self, path):
+        """Makes of the recorded streams of a pair, if there are any, the recordings of the four lines that a daemon makes."""
+        for stream, lanes in ((".in", {">": "device", "<": "came"}), (".out", {">": "sent", "<": "received"})):
+            if os.path.exists(path + stream):
+                with open(path + stream) as file:
+                    lines = file.readlines()
+                for letter, lane in lanes.items():
+                    with open("%s.%s.ticks" % (path, lane), "w") as file:
+                        file.writelines(line[1:] for line in lines if line.startswith(letter))
 
     def numbers(self):
         """For each of the four journals its name, its number or None if it has none, the word of the notes that have such numbers (sealed
