@@ -8,8 +8,10 @@
 #        BEFORE is the last version, a program or a checkout with one: the level release counts the instructions of both.
 # reading: writes the page out/reading.md, with all definitions on which the headline rests, in order of use.
 # live: shows mbpoll reading registers through four boxes, under attack. It needs mbpoll, libmodbus and a C compiler.
+# live_uart: polls a device through two adapters over the serial ports of a virtual machine. Skipped without qemu or a kernel.
+#            OVER is a program with the words `live line`; without it ticks are handed on as they come.
 # claims: writes the page out/claims.md, with each public clause and its sentence, and fails if one has none.
-.PHONY: try demo test check reading claims live
+.PHONY: try demo test check reading claims live live_uart
 
 try:
 	@python3 scripts/try.py $(if $(CAPTURE),$(foreach name,CAPTURE RATE P START FRAMES,$(if $($(name)),"$(name)=$($(name))")))
@@ -31,3 +33,6 @@ claims:
 
 live:
 	@python3 scripts/live.py
+
+live_uart:
+	@python3 scripts/live_uart.py $(if $(OVER),--over $(OVER))

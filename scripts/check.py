@@ -15,13 +15,13 @@ program or the words are wrong. No script is part of the gate, and none proves a
 """
 import collections, os, shutil, subprocess, sys, time
 
-import browser, built, guard
+import browser, built, guard, live_uart
 
 ROOT = os.path.dirname(os.path.dirname(os.path.abspath(__file__)))
 LOGS = os.path.join(ROOT, "out", "check")
 LEVELS = ("quick", "change", "release")
 MEMORY = "/dev/shm"
-TOOLS = ("cc", "nm", "strace", "valgrind", "mbpoll", "tshark", "text2pcap", "editcap", "sigrok-cli")
+TOOLS = ("cc", "nm", "strace", "valgrind", "mbpoll", "tshark", "text2pcap", "editcap", "sigrok-cli", *live_uart.NEEDED)
 LIBRARY = os.path.join(ROOT, "crates", "yasir_c", "out", "libyasir_c.a")
 
 # A script, what it needs, and its words at each level, or None if the level doesn't run it. PROGRAM, BEFORE and MEMORY are replaced
@@ -70,6 +70,7 @@ CHECKS = [
     Check("tty_ticks_check", ("cc",), None, [], ["planted"]),
     Check("live", ("library", "libmodbus", "mbpoll"), None, None, []),
     Check("live_kinds", ("library", "cc"), None, None, []),
+    Check("live_uart", ("cc", "kernel", *live_uart.NEEDED), None, None, []),
     Check("captures", ("line_capture", "tshark", "text2pcap", "editcap", "sigrok-cli"), None, [], []),
     Check("dissector_check", ("program", "tshark", "text2pcap"), None, ["PROGRAM"], ["PROGRAM"]),
     Check("timeline_check", ("chromium",), None, [], []),
@@ -89,6 +90,8 @@ def lacking(need, program, before=None):
         return built.lacking(built.path_of(need), need)
     if need == "memory" and not os.path.isdir(MEMORY):
         return "there is no folder in memory, %s" % MEMORY
+    if need == "kernel" and live_uart.kernel() is None:
+        return "no kernel for a virtual machine is named by LIVE_UART_KERNEL, and none is in /boot"
     if need == "chromium" and browser.find() is None:
         return "no Chromium is on the path"
     if need == "libmodbus":
