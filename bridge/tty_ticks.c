@@ -59,7 +59,7 @@ typedef struct {
 static struct { int baud, stop, hold, playout, deaf, rs485; char parity; } opt = {9600, 1, 20, 25, -1, 0, 'e'};
 static port ports[2];
 static nanos len, started, next_tick, beat_at, worst_late, stopped_at;
-static long long late, dropped, lost_lines;
+static long long late, dropped, echoes, lost_lines, lost_said; /* the last two: of notes */
 static char text[TEXT], said[512]; /* what waits for the program; a line for standard error */
 static size_t text_len;
 static int to_program, notes_to, failed, child; /* the program, or 0 if it waited at a socket */
@@ -83,9 +83,8 @@ static nanos now(void)
 
 static void note(char *lines, size_t size)
 {
-    static long long lost;
     if (write(notes_to, lines, size) < (ssize_t)size) lost_lines++;
-    else if (lost_lines > lost) lost = lost_lines, say("%lld lines were dropped so far\n", lost);
+    else if (lost_lines > lost_said) lost_said = lost_lines, say("%lld lines were dropped so far\n", lost_lines);
 }
 
 /* Ends the line: no more ticks are told to the program, and all that it still tells is played. */
@@ -146,8 +145,8 @@ static void hear(port *p)
     if (got == 0 || (got < 0 && errno != EAGAIN && errno != EINTR)) lose_port(p, "the port is gone");
     for (ssize_t i = 0; i < got && !stopping; i++) {
         nanos at = p->has_rate ? came - (got - 1 - i) * len : came;
-        if (opt.deaf >= 0 && at < p->busy_till + len + opt.deaf * MS) continue; /* what it sent comes back to it */
-        if ((nanos)p->heard.count * len > HEARD_MS * MS || !push(&p->heard, bytes[i], at))
+        if (opt.deaf >= 0 && at < p->busy_till + len + opt.deaf * MS) echoes++; /* what it sent comes back to it */
+        else if ((nanos)p->heard.count * len > HEARD_MS * MS || !push(&p->heard, bytes[i], at))
             fail(p->path, "it brings more than its rate");
     }
 }
@@ -361,7 +360,8 @@ static int finish(void)
         if (p->told.count != p->played.count || p->told.sum != p->played.sum)
             say("%s: %lld bytes were told, and %lld played\n", p->path, p->told.count, p->played.count), failed = 1;
     say("%lld ticks; %lld bytes came late from the program, by %.1f ms at worst; %lld came too late and weren't "
-        "played; %lld lines were dropped\n", (long long)next_tick, late, (double)worst_late / 1e6, dropped, lost_lines);
+        "played; %lld came while it sent; %lld lines were dropped\n",
+        (long long)next_tick, late, (double)worst_late / 1e6, dropped, echoes, lost_lines);
     return failed || !WIFEXITED(status) ? 4 : WEXITSTATUS(status);
 }
 
@@ -377,6 +377,6 @@ int main(int argc, char **argv)
     notes_to = open("/proc/self/fd/2", O_WRONLY | O_NONBLOCK | O_APPEND | O_NOCTTY | O_CLOEXEC);
     if (notes_to < 0) notes_to = 2, fcntl(2, F_SETFL, O_NONBLOCK);
     signal(SIGINT, on_signal), signal(SIGTERM, on_signal), signal(SIGHUP, on_signal), signal(SIGPIPE, SIG_IGN);
-    for (started = now(); turn();) {}
+    for (stopped_at = started = now(); turn();) {}
     return finish();
 }

@@ -559,7 +559,8 @@ def two_wires(tried):
         heard = run.heard(b"<")
         if more:
             right = status == 0 and heard == REPLY and run.bytes(run.link) == FRAME
-            tried.see(right, "with %s it hears the reply alone: %s %s" % (" ".join(more), heard.hex(), said[-200:]))
+            tried.see(right, "with %s it hears the reply alone: %s %s" % (" ".join(more), heard.hex(), said[-300:]))
+            tried.see("; %d came while it sent;" % len(FRAME) in said, "the others are counted")
         else:
             tried.see(status == 0 and heard.startswith(FRAME), "without -2 it hears what it sent: %s" % heard.hex())
 
