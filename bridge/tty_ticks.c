@@ -322,8 +322,8 @@ static int turn(void)
     if (done < 0 && errno == EPIPE) text_len = 0, stopping = 1;
     if (stopping && text_len == 0) shutdown(to_program, SHUT_WR), close(to_program), to_program = -1;
     for (int i = 0; i < 2; i++) { nanos due = play(&ports[i]); if (due < next) next = due; }
-    if (f[2].fd < 0 && f[3].fd < 0 && a->play.count + b->play.count == 0) return 0;
-    if (stopping && t > stopped_at + END_MS * MS) return fail("the program", "it doesn't end"), 0;
+    if (f[2].fd < 0 && f[3].fd < 0) { if (a->play.count + b->play.count == 0) return 0; }
+    else if (stopping && t > stopped_at + END_MS * MS) return fail("the program", "it doesn't end"), 0;
     struct timespec wait = {0, next > (t = now()) ? next - t : 0};
     if (ppoll(f, 4, &wait, NULL) < 0) return errno == EINTR;
     for (int i = 0; i < 2; i++) if (f[i].revents) hear(&ports[i]);

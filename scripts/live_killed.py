@@ -17,7 +17,7 @@ import bridge_build, model
 from live_line import Port, make_key, packet
 
 BAUD, TICK, KIND = 9600, 11 / 9600, "rtu"
-ROUNDS, REQUESTS = 20, 3
+ROUNDS, REQUESTS, TRAILER = 20, 3, 14
 NO_PARITY = ["-P", "none", "-S", "2"]
 
 
@@ -73,15 +73,15 @@ class End:
         self.device.close(), self.link.close()
 
 
-def sealed_by(link):
-    """The frames and trailers in what came to a link, of requests of this script."""
-    size = len(frame_of(0))
-    found, place = [], 0
-    while place + size + 14 <= len(link):
-        frame, trailer = link[place:place + size], link[place + size:place + size + 14]
-        if frame[:2] == bytes((1, 0x41)) and model.Rtu.has_right_ending(frame):
-            found.append((frame, trailer))
-            place += size + 14
+def sealed_in(link, key, direction):
+    """The packets in what came to a link: each with its number, frame and trailer. A frame that wasn't sealed, or was cut, is none."""
+    size, found, place = len(frame_of(0)), [], 0
+    while place + size + TRAILER <= len(link):
+        frame, trailer = link[place:place + size], link[place + size:place + size + TRAILER]
+        number = int.from_bytes(trailer[:2], "big")
+        if trailer == bytes(model.trailer(model.Rtu, key, direction, frame, number)):
+            found.append((number, frame, trailer))
+            place += size + TRAILER
         else:
             place += 1
     return found
@@ -93,6 +93,8 @@ class Rounds:
         self.near, self.far = End(folder, "a", "ab", adapter, program), End(folder, "b", "ba", adapter, program)
         self.draw, self.asked, self.recorded, self.wrong = random.Random(seed), 0, [], 0
         self.numbers, self.passed, self.came = [], [], 0
+        with open(self.near.key) as file:
+            self.key = bytes.fromhex(file.read())
 
     def see(self, holds, what):
         if not holds:
@@ -114,8 +116,7 @@ class Rounds:
         return link
 
     def round(self, how):
-        packets = sealed_by(self.seal_at(self.far, None))
-        self.recorded += packets
+        self.recorded += [sealed[1:] for sealed in sealed_in(self.seal_at(self.far, None), self.key, 1)]
         self.seal_at(self.near, how)
         link = bytes_of(self.near.link, 0.02)
         for frame, trailer in self.recorded[-6:] + self.draw.sample(self.recorded, min(4, len(self.recorded))):
@@ -125,7 +126,7 @@ class Rounds:
         link += bytes_of(self.near.link, 0.02)
         given = bytes_of(self.near.device, 0.05)
         self.near.end(how)
-        numbers = [int.from_bytes(trailer[:2], "big") for _, trailer in sealed_by(link)]
+        numbers = [number for number, _, _ in sealed_in(link, self.key, 0)]
         self.see(numbers == sorted(set(numbers)) and (not numbers or not self.numbers or numbers[0] > self.numbers[-1]),
                  "numbers %s after %s" % (numbers, self.numbers[-3:]))
         self.numbers += numbers

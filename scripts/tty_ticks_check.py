@@ -580,7 +580,7 @@ def parts_of_writes(tried):
 
 
 def unending(tried):
-    """A program that doesn't read, or doesn't end, doesn't keep the adapter from ending."""
+    """A program that doesn't read, or doesn't end, doesn't keep the adapter from ending. What one told that has ended is played, however long."""
     hasty = tried.with_changes(("END_MS = 10000", "END_MS = 500"), ("TEXT = 1 << 16", "TEXT = 512"))
     for mode in ("stays", "closes"):
         run = Run(hasty, mode)
@@ -588,6 +588,11 @@ def unending(tried):
         run.wait_for(lambda: run.bytes(run.link) == FRAME)
         status, said = run.end(5)
         tried.see(status == 4 and (mode == "closes" or "it doesn't end" in said), "%s: status %d: %s" % (mode, status, said[-300:]))
+    run = Run(hasty, "behind", 200)
+    run.send(run.device, (40, FRAME))
+    time.sleep(0.3)
+    status, said = run.end(5)
+    tried.see(status == 0 and run.bytes(run.link) == FRAME, "status %d, played %s: %s" % (status, run.bytes(run.link).hex(), said[-300:]))
     run = Run(hasty, "deaf")
     ended = run.wait_for(lambda: run.run.poll() is not None, 12)
     status, said = run.end()
@@ -620,7 +625,7 @@ PLANTED = [
     ("bytes of a write that was cut are lost", parts_of_writes, [("drop(&p->play, (size_t)done)", "drop(&p->play, n)")]),
     ("a queue that is full goes on", flood, [('fail(p->path, "it brings more than its rate");', ";")]),
     ("bytes that are read at once came just then", blocks, [("p->has_rate ? came - (got - 1 - i) * len : came", "came")]),
-    ("a stop cuts what is played", stop, [(" && a->play.count + b->play.count == 0", "")]),
+    ("a stop cuts what is played", stop, [("if (a->play.count + b->play.count == 0) return 0;", "return 0;")]),
     ("a stop isn't told to the program", stop, [("shutdown(to_program, SHUT_WR), close(to_program), ", "")]),
     ("a stop isn't told to a program at a socket", joined, [("shutdown(to_program, SHUT_WR), ", "")]),
     ("a program at a socket may end", joined, [('fail("the program", "it ended")', "(void)(stopping = 1)")]),
@@ -631,6 +636,8 @@ PLANTED = [
     ("numbers are read in part", words, [('strspn(word, "0123456789") == n && ', "")]),
     ("a line that is none is passed over", bad_lines, [('if (wrong) return fail("the program", wrong);', "if (wrong) { wrong = NULL; return; }")]),
     ("ticks that weren't heard may be told", ahead, [("p->ticks + ticks > next_tick", "0 && p->ticks + ticks > next_tick")]),
+    ("what is told behind a stop is played for ten seconds", unending, [("{ if (a->play.count + b->play.count == 0) return 0; }\n    else if",
+        "if (a->play.count + b->play.count == 0) return 0;\n    if")]),
     ("a program that doesn't end is waited for", unending, [("waitpid(child, &status, WNOHANG)", "waitpid(child, &status, 0)")]),
     ("a port that another run has is taken", ports, [("flock(p->fd, LOCK_EX | LOCK_NB) != 0", "0")]),
     ("settings that a port had before stay", ports, [("t.c_iflag = INPCK | IGNPAR | IGNBRK", "t.c_iflag |= INPCK | IGNPAR | IGNBRK")]),
