@@ -88,7 +88,9 @@ def adapter():
     """Builds the adapter between two serial ports and one stream, and returns its path."""
     os.makedirs(OUT, exist_ok=True)
     path = os.path.join(OUT, "tty_ticks")
-    ran([compiler(), *FLAGS, os.path.join(BRIDGE, "tty_ticks.c"), "-o", path])
+    made = "%s.%d" % (path, os.getpid())  # another script may be running it
+    ran([compiler(), *FLAGS, os.path.join(BRIDGE, "tty_ticks.c"), "-o", made])
+    os.replace(made, path)
     return path
 
 

@@ -10,7 +10,8 @@ adapter wrong in the ways that PLANTED lists, one at a time, and fails if the pa
 
 The program at the other end is this script too: it reads the stream of ticks, refuses a line that the grammar doesn't have, and tells
 each tick again in the same direction. A part in which something is wrong is run again, at most four times, since a machine that is busy
-may delay a byte for too long. It ends with 1 if a part was wrong each time, and with 2 if there is no C compiler. It is no part of the gate.
+may delay a byte for too long. With `planted` three of five runs decide, of the right adapter and of the wrong ones. It ends with 1 if
+something is wrong, and with 2 if there is no C compiler. It is no part of the gate.
 """
 import collections, concurrent.futures, fcntl, functools, os, re, select, signal, socket, subprocess, sys, tempfile, termios, threading, time
 
@@ -25,7 +26,7 @@ TICK = 11 / BAUD
 RATE = ["-b", str(BAUD), "-P", "none", "-S", "2"]
 HOLD, PLAYOUT = 30, 70
 FRAME, REPLY, TRAILER = bytes.fromhex("01030000000ac5cd"), bytes.fromhex("0103020007f986"), bytes(range(0x40, 0x4e))
-TRIES, AT_ONCE = 5, 6
+TRIES, MOST, AT_ONCE = 5, 3, 6
 # The most lines of code that the adapter may have, without comments and blank lines.
 LINES = 300
 BUILDS = {
@@ -438,12 +439,13 @@ def ports(tried):
 
 def ahead(tried):
     """A tick that the program tells before it was heard ends the adapter, and isn't played."""
-    for text in (r">-1000000\n>+77\n", r"<-500\n", r">+" + "77" * 32 + r"\n" * 1):
-        run = Run(tried, "tells", text if text.startswith(r"<") else text * 40)
+    for text in (r">-1000000\n>+77\n", r"<-500\n>+77\n", (r">+" + "66" * 32 + r"\n") * 40 + r">+77\n"):
+        run = Run(tried, "tells", text)
         run.send(run.device, (30, FRAME))
-        ended = run.wait_for(lambda: run.run.poll() is not None, 2)
+        ended = run.wait_for(lambda: run.run.poll() is not None, 4)
         status, said = run.end()
-        tried.see(ended and status == 4 and "it told a tick that wasn't heard yet" in said, "%.20s: status %d: %s" % (text, status, said[-200:]))
+        refused = status == 4 and "it told a tick that wasn't heard yet" in said
+        tried.see(ended and refused and b"\x77" not in run.bytes(run.link), "%.20s: status %d: %s" % (text, status, said[-200:]))
 
 
 def joined(tried):
@@ -580,7 +582,7 @@ def parts_of_writes(tried):
 
 
 def unending(tried):
-    """A program that doesn't read, or doesn't end, doesn't keep the adapter from ending. What one told that has ended is played, however long."""
+    """A program that doesn't read, or doesn't end, doesn't keep the adapter from ending. What one that has ended told is all played."""
     hasty = tried.with_changes(("END_MS = 10000", "END_MS = 500"), ("TEXT = 1 << 16", "TEXT = 512"))
     for mode in ("stays", "closes"):
         run = Run(hasty, mode)
@@ -636,8 +638,8 @@ PLANTED = [
     ("numbers are read in part", words, [('strspn(word, "0123456789") == n && ', "")]),
     ("a line that is none is passed over", bad_lines, [('if (wrong) return fail("the program", wrong);', "if (wrong) { wrong = NULL; return; }")]),
     ("ticks that weren't heard may be told", ahead, [("p->ticks + ticks > next_tick", "0 && p->ticks + ticks > next_tick")]),
-    ("what is told behind a stop is played for ten seconds", unending, [("{ if (a->play.count + b->play.count == 0) return 0; }\n    else if",
-        "if (a->play.count + b->play.count == 0) return 0;\n    if")]),
+    ("what is told behind a stop is played for ten seconds", unending, [(
+        "{ if (a->play.count + b->play.count == 0) return 0; }\n    else if", "if (a->play.count + b->play.count == 0) return 0;\n    if")]),
     ("a program that doesn't end is waited for", unending, [("waitpid(child, &status, WNOHANG)", "waitpid(child, &status, 0)")]),
     ("a port that another run has is taken", ports, [("flock(p->fd, LOCK_EX | LOCK_NB) != 0", "0")]),
     ("settings that a port had before stay", ports, [("t.c_iflag = INPCK | IGNPAR | IGNBRK", "t.c_iflag |= INPCK | IGNPAR | IGNBRK")]),
@@ -681,23 +683,23 @@ class Compiler:
         return Tried(folder, compiled(), compiled)
 
 
-def is_right(compiler, part, *how):
-    """Whether nothing is wrong in a part, or nothing in one of the next runs, and what was seen in the last run."""
-    for _ in range(TRIES):
+def is_right(compiler, part, needed, *how):
+    """Whether nothing is wrong in so many of at most TRIES runs of a part, and what was seen in the last run."""
+    passed, failed = 0, 0
+    while passed < needed and failed <= TRIES - needed:
         tried = compiler.tried(*how)
         part(tried)
-        if tried.wrong == 0:
-            break
-    return tried.wrong == 0, tried.said
+        passed, failed = passed + (tried.wrong == 0), failed + (tried.wrong > 0)
+    return passed == needed, tried.said
 
 
 def lines_of_code(text):
     return sum(1 for each in re.sub(r"/\*.*?\*/", "", text, flags=re.S).splitlines() if each.strip())
 
 
-def run_all(compiler, parts, pool):
+def run_all(compiler, parts, needed, pool):
     """Runs parts over each build. Returns how many were wrong."""
-    jobs = [(name, part, pool.submit(is_right, compiler, part, flags)) for name, flags in BUILDS.items() for part in parts]
+    jobs = [(name, part, pool.submit(is_right, compiler, part, needed, flags)) for name, flags in BUILDS.items() for part in parts]
     wrong = 0
     for name, part, job in jobs:
         right, said = job.result()
@@ -710,7 +712,7 @@ def run_all(compiler, parts, pool):
 
 def run_planted(compiler, pool):
     """Plants each fault. Returns how many weren't noticed, or can't be."""
-    jobs = [(what, part, pool.submit(is_right, compiler, part, ["-O2"], changes)) for what, part, changes in PLANTED if part]
+    jobs = [(what, part, pool.submit(is_right, compiler, part, MOST, ["-O2"], changes)) for what, part, changes in PLANTED if part]
     wrong = 0
     for what, part, job in jobs:
         right, said = job.result()
@@ -732,7 +734,7 @@ def main(words):
         size = lines_of_code(compiler.source)
         print("%s the adapter has %d lines of code, and may have %d" % ("right:" if size <= LINES else "WRONG:", size, LINES))
         wrong = size > LINES
-        wrong += run_all(compiler, PARTS if planted or not words else [known[word] for word in words], pool)
+        wrong += run_all(compiler, [known[word] for word in words] if words and not planted else PARTS, MOST if planted else 1, pool)
         if planted:
             wrong += run_planted(compiler, pool)
     if wrong:
