@@ -5,8 +5,8 @@
  * pseudo-terminal of its own. At the first one it is the master, at the second one the device, which sends each
  * request back. A request is a frame and, three silent ticks later, TRAILER bytes. It prints how many polls were
  * answered, and how late the requests came, in ms after their last byte. What the two say on standard error goes
- * into `first.said` and `second.said`. `later` tells each tick again so many ticks later, and at the end says on standard error how many silent
- * ticks it was told in each gap of up to 6 on the link. */
+ * into `first.said` and `second.said`. `later` tells each tick again so many ticks later, and at the end says on standard error how many bursts
+ * on the link had three silent ticks behind their frame, and how many other gaps of up to six ticks there were. */
 #define _GNU_SOURCE
 #include <fcntl.h>
 #include <poll.h>
@@ -137,15 +137,18 @@ static int polls(int baud, int count, char **words)
     return 0;
 }
 
-/* A direction of the stream: the ticks that wait (-1 is silence), and the silent ticks since the last byte. */
-typedef struct { int kept[LATER], first, silent; } direction;
+/* A direction of the stream: the ticks that wait (-1 is silence), the silent ticks since the last byte, the bytes of
+ * its burst, and the gaps in place and elsewhere. */
+typedef struct { int kept[LATER], first, silent, bytes; long pauses, others; } direction;
 
-static void tell(direction *d, char letter, int tick, int later, long *gaps)
+static void tell(direction *d, char letter, int tick, int later)
 {
     int told = d->kept[d->first];
     d->kept[d->first] = tick, d->first = (d->first + 1) % later;
-    if (tick >= 0 && letter == '<' && d->silent > 0 && d->silent <= 6) gaps[d->silent]++;
-    d->silent = tick >= 0 ? 0 : d->silent + 1;
+    if (tick >= 0 && d->silent > 6) d->bytes = 0;
+    else if (tick >= 0 && d->silent == 3 && d->bytes == FRAME) d->pauses++;
+    else if (tick >= 0 && d->silent > 0) d->others++;
+    d->silent = tick >= 0 ? 0 : d->silent + 1, d->bytes += tick >= 0;
     if (told < 0) printf("%c-1\n", letter);
     else printf("%c+%02x\n", letter, (unsigned)told);
 }
@@ -154,17 +157,16 @@ static int later(int ticks)
 {
     static direction ways[2];
     static char line[256];
-    long gaps[7] = {0};
     unsigned byte;
     if (ticks < 1 || ticks > LATER) return 2;
     for (int i = 0; i < ticks; i++) ways[0].kept[i] = ways[1].kept[i] = -1;
     while (fgets(line, sizeof line, stdin)) {
         direction *d = &ways[*line == '<'];
-        if (line[1] == '-') for (int i = atoi(line + 2); i > 0; i--) tell(d, *line, -1, ticks, gaps);
-        else for (char *at = line + 2; sscanf(at, "%2x", &byte) == 1; at += 2) tell(d, *line, (int)byte, ticks, gaps);
+        if (line[1] == '-') for (int i = atoi(line + 2); i > 0; i--) tell(d, *line, -1, ticks);
+        else for (char *at = line + 2; sscanf(at, "%2x", &byte) == 1; at += 2) tell(d, *line, (int)byte, ticks);
         fflush(stdout);
     }
-    fprintf(stderr, "gaps of 1 to 6 silent ticks on the link: %ld %ld %ld %ld %ld %ld\n", gaps[1], gaps[2], gaps[3], gaps[4], gaps[5], gaps[6]);
+    fprintf(stderr, "link: %ld pauses of three ticks behind a frame, %ld other gaps\n", ways[1].pauses, ways[1].others);
     return 0;
 }
 
