@@ -203,100 +203,100 @@ module _ {X P D : Type 0} (x : WayBox X) (p : Port P) (d : SlotDisk D) (way : Wa
   -- ---- a tick
 
   module _ (old mid : WayLines X) (port : P) (disk : D) (t : Tick) (takes : TakesTick x old mid t)
-      where
-    abbrev at_old : WayOutside X P D
-    at_old = way_outside old port disk
+    where
+      abbrev at_old : WayOutside X P D
+      at_old = way_outside old port disk
 
-    abbrev at_mid : WayOutside X P D
-    at_mid = way_outside mid port disk
+      abbrev at_mid : WayOutside X P D
+      at_mid = way_outside mid port disk
 
-    still_ahead : IsAhead old → IsAhead mid
-    still_ahead ahead = record {
-      covers = omega (arith, ahead.covers, ap ahead_number takes.kept, ap ahead_floor takes.kept);
-      within = omega (
-        arith,
-        ahead.within,
-        ap ahead_number takes.kept,
-        ap ahead_floor takes.kept,
-        ap ahead_by takes.kept,
-      );
-    }
+      still_ahead : IsAhead old → IsAhead mid
+      still_ahead ahead = record {
+        covers = omega (arith, ahead.covers, ap ahead_number takes.kept, ap ahead_floor takes.kept);
+        within = omega (
+          arith,
+          ahead.within,
+          ap ahead_number takes.kept,
+          ap ahead_floor takes.kept,
+          ap ahead_by takes.kept,
+        );
+      }
 
-    pub tick_ahead : IsAhead old → IsAhead mid
-    tick_ahead = still_ahead
+      pub tick_ahead : IsAhead old → IsAhead mid
+      tick_ahead = still_ahead
 
-    pub tick_stands : StandsOver old (d.told disk) → StandsOver mid (d.told disk)
-    tick_stands stands = subst (λ kept. StandsAhead kept (d.told disk)) (sym takes.kept) stands
+      pub tick_stands : StandsOver old (d.told disk) → StandsOver mid (d.told disk)
+      tick_stands stands = subst (λ kept. StandsAhead kept (d.told disk)) (sym takes.kept) stands
 
-    tick_moves : (origin : WayOrigin) (items : List Item)
-        → WayStands x p d way at_old origin (ticks_in items)
-        → WayStands x p d way at_mid origin (ticks_in (items ++ tick t ∷ []))
-    tick_moves origin items stands =
-        subst (WayStands x p d way at_mid origin) (sym (ticks_in-append items (tick t ∷ [])))
-        (record {
-          makes = stands.makes;
-          early = stands.early;
-          others = stands.others;
-          handed = stands.handed;
-          taken = takes.takes origin.setup (stands.early way) (ticks_in items) stands.taken;
-        })
+      tick_moves : (origin : WayOrigin) (items : List Item)
+          → WayStands x p d way at_old origin (ticks_in items)
+          → WayStands x p d way at_mid origin (ticks_in (items ++ tick t ∷ []))
+      tick_moves origin items stands =
+          subst (WayStands x p d way at_mid origin) (sym (ticks_in-append items (tick t ∷ [])))
+          (record {
+            makes = stands.makes;
+            early = stands.early;
+            others = stands.others;
+            handed = stands.handed;
+            taken = takes.takes origin.setup (stands.early way) (ticks_in items) stands.taken;
+          })
 
-    images_kept : ((disk : D) (c : Slots) → d.left_since disk (d.moment disk) c
-        → d.may_leave disk c) → KeepsImages d (kept_in old) (kept_in mid) disk disk
-    images_kept only_now = subst (λ kept. KeepsImages d (kept_in old) kept disk disk) (sym takes.kept)
-        (images_none d only_now (kept_in old) disk)
+      images_kept : ((disk : D) (c : Slots) → d.left_since disk (d.moment disk) c
+          → d.may_leave disk c) → KeepsImages d (kept_in old) (kept_in mid) disk disk
+      images_kept only_now = subst (λ kept. KeepsImages d (kept_in old) kept disk disk) (sym takes.kept)
+          (images_none d only_now (kept_in old) disk)
 
-    pub tick_given : ((disk : D) (c : Slots) → d.left_since disk (d.moment disk) c
-        → d.may_leave disk c) → IsAbleWay x p d way at_old → MayTake x mid
-        → Gives (way_filtering x p d way) at_old at_mid (tick t ∷ []) (Ok tt)
-    tick_given only_now able may = record {
-      moved = tick_moves;
-      stopped = tt;
-      counted = takes.counted;
-      is_able = record {
-        may = may;
-        ahead = still_ahead able.ahead;
-        stands = tick_stands able.stands;
-      };
-      went = record {
-        images = images_kept only_now;
-        disk = disk_none (d.faults disk);
-        port = port_same p port;
-      };
-    }
+      pub tick_given : ((disk : D) (c : Slots) → d.left_since disk (d.moment disk) c
+          → d.may_leave disk c) → IsAbleWay x p d way at_old → MayTake x mid
+          → Gives (way_filtering x p d way) at_old at_mid (tick t ∷ []) (Ok tt)
+      tick_given only_now able may = record {
+        moved = tick_moves;
+        stopped = tt;
+        counted = takes.counted;
+        is_able = record {
+          may = may;
+          ahead = still_ahead able.ahead;
+          stands = tick_stands able.stands;
+        };
+        went = record {
+          images = images_kept only_now;
+          disk = disk_none (d.faults disk);
+          port = port_same p port;
+        };
+      }
 
-    pub tick_handed : (new : WayOutside X P D) (result : Result (Unit {0}) Stop)
-        → ((disk : D) (c : Slots) → d.left_since disk (d.moment disk) c → d.may_leave disk c)
-        → HandsAll x p d way at_mid new result
-        → Gives (way_filtering x p d way) at_old new (tick t ∷ []) result
-    tick_handed new (Ok tt) only_now hands = record {
-      moved = λ origin items stands.
-          (hands.handed origin (ticks_in (items ++ tick t ∷ [])) (tick_moves origin items stands)).stands;
-      stopped = tt;
-      counted = hands.taken ∙ takes.counted;
-      is_able = hands.able;
-      went = way-then at_old at_mid new (Ok tt) (record {
-        images = images_kept only_now;
-        disk = disk_none (d.faults disk);
-        port = port_same p port;
-      }) hands.went;
-    }
-    tick_handed new (Err stop) only_now hands = record {
-      moved = tt;
-      stopped = record {
-        place = 0;
-        within = omega arith;
-        at = λ origin items stands. hands.stopped origin (ticks_in (items ++ tick t ∷ []))
-            (tick_moves origin items stands);
-      };
-      counted = tt;
-      is_able = tt;
-      went = way-then at_old at_mid new (Err stop) (record {
-        images = images_kept only_now;
-        disk = disk_none (d.faults disk);
-        port = port_same p port;
-      }) hands.went;
-    }
+      pub tick_handed : (new : WayOutside X P D) (result : Result (Unit {0}) Stop)
+          → ((disk : D) (c : Slots) → d.left_since disk (d.moment disk) c → d.may_leave disk c)
+          → HandsAll x p d way at_mid new result
+          → Gives (way_filtering x p d way) at_old new (tick t ∷ []) result
+      tick_handed new (Ok tt) only_now hands = record {
+        moved = λ origin items stands.
+            (hands.handed origin (ticks_in (items ++ tick t ∷ [])) (tick_moves origin items stands)).stands;
+        stopped = tt;
+        counted = hands.taken ∙ takes.counted;
+        is_able = hands.able;
+        went = way-then at_old at_mid new (Ok tt) (record {
+          images = images_kept only_now;
+          disk = disk_none (d.faults disk);
+          port = port_same p port;
+        }) hands.went;
+      }
+      tick_handed new (Err stop) only_now hands = record {
+        moved = tt;
+        stopped = record {
+          place = 0;
+          within = omega arith;
+          at = λ origin items stands. hands.stopped origin (ticks_in (items ++ tick t ∷ []))
+              (tick_moves origin items stands);
+        };
+        counted = tt;
+        is_able = tt;
+        went = way-then at_old at_mid new (Err stop) (record {
+          images = images_kept only_now;
+          disk = disk_none (d.faults disk);
+          port = port_same p port;
+        }) hands.went;
+      }
 
 -- the first tick of a run, as the first of its items
 pub first_item : (run : TickRun) (t : Tick) → run_ticks run ≡ t ∷ drop 1 (run_ticks run)

@@ -34,7 +34,7 @@ returns-in-Err-hand_on_way g c =
     let wrote = c.in-Err-hand_on_way.ensures in
     record {
       counted = ap g.X.WayBox.taken did.same;
-  number = ap g.X.WayBox.number did.same;
+      number = ap g.X.WayBox.number did.same;
       images = did.images;
       settled = λ e. did.ok.settled;
       reached = λ e. did.ok.reached;
@@ -64,7 +64,7 @@ returns g c =
     let empty = c.empty.ensures in
     record {
       counted = ap g.X.WayBox.taken did.same;
-  number = ap g.X.WayBox.number did.same;
+      number = ap g.X.WayBox.number did.same;
       images = record {
         link = did.images.link;
         most = did.images.most;
