@@ -17,5 +17,5 @@ mod over_ends;
 pub use ahead_lines::AheadLines;
 pub use command::{LiveLink, live_line};
 pub use filter::{hand_on_all, take_run};
-pub use live_box::{LiveBox, MAX_LIVE_BYTES, MAX_LIVE_TICKS};
+pub use live_box::{LiveBox, MAX_LIVE_BYTES, MAX_LIVE_TICKS, run_of};
 pub use over_ends::live_over;

@@ -36,8 +36,9 @@ pub const MAX_LIVE_BYTES: u64 = 4_611_686_018_427_387_904;
 // How many bytes are read at once at most.
 const PIECE: usize = 4096;
 
-// Returns the ticks of a line with this content. If it is a `+` line, these are its bytes.
-fn run_of(content: Content, bytes: &[u8]) -> TickRun<'_>
+/// Returns the ticks of a line with this content. If it is a `+` line, these are its bytes.
+pub fn run_of(content: Content, bytes: &[u8]) -> TickRun<'_>
+    /// They are the ticks of the content's items.
     ensures { run_ticks result ≡ ticks_in (items_of_content content bytes.now) }
 {
     match content {

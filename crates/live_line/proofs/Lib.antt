@@ -8,3 +8,4 @@ pub mod Ended
 pub mod Putting
 pub mod Worked
 pub mod Waiting
+pub mod Running

@@ -37,7 +37,7 @@ own_part_begun Outgoing Incoming = refl
 own_part_begun Incoming Outgoing = refl
 own_part_begun Incoming Incoming = refl
 
-letter_no_lf : (way : Way) → letter_of way ≢ 10
+pub letter_no_lf : (way : Way) → letter_of way ≢ 10
 letter_no_lf Outgoing = λ e. absurd (omega arith)
 letter_no_lf Incoming = λ e. absurd (omega arith)
 

@@ -7,3 +7,4 @@ pub mod Guarded
 pub mod WayBoxLaws
 pub mod WayLines
 pub mod NoteEnds
+pub mod WayRuns

@@ -10,6 +10,7 @@ use Rattle.sequence_journal.specs.declared.journal.Journal.{Journal}
 use Rattle.sequence_journal.specs.declared.link.LinkId.{LinkId}
 use Rattle.sequence_journal.specs.Ahead.{ahead_disk, ahead_link, ahead_floor, ahead_number, ahead_by}
 use Rattle.sequence_journal.specs.Ahead.{StandsAhead}
+use Rattle.sequence_journal.specs.declared.ahead.AheadJournal.{AheadJournal}
 use Rattle.sequence_journal.specs.Journal.{IsCrashSafe, HasFloorFrom, HasFloorAtLeast}
 use Rattle.sequence_journal.specs.declared.journal.JournalFault.{JournalFault as Fault}
 use Rattle.sequence_journal.specs.Late.{HasFloorBetween}
@@ -31,6 +32,10 @@ use Rattle.live_line.specs.declared.ways.Way.{Way}
 -- the box of a way
 abbrev pub way_in : {X : Type 0} → WayLines X → X
 way_in at = at.way_box
+
+-- the journal of the numbers of a way
+abbrev pub kept_in : {X : Type 0} → WayLines X → AheadJournal
+kept_in at = at.kept
 
 -- what waits to be handed on
 abbrev pub waits_in : {X : Type 0} → WayLines X → Waiting
@@ -75,17 +80,17 @@ module _ {P : Type 0} (p : Port P) where
     pub failed : is_cause ≡ true
         → (to : Output) × Rose (p.write_faults old to) (p.write_faults new to)
 
-module _ {X D : Type 0} (d : SlotDisk D) where
-  -- What calls do to the journal and to the disk's images, whether they failed or not.
-  pub record KeepsImages (old new : WayLines X) (before now : D) : Type 0 where
-    pub link : link_in new ≡ link_in old
-    pub most : most_in new ≡ most_in old
-    pub settles : settled_in old ≤ settled_in new
-    pub rises : floor_in old ≤ floor_in new
-    pub is_kept : IsCrashSafe (disk_in old) (d.told before) (d.may_leave before)
-        → IsCrashSafe (disk_in new) (d.told now) (d.may_leave now)
-    pub any_moment : IsCrashSafe (disk_in old) (d.told before) (d.may_leave before)
-        → LeavesOnly d.moment d.left_since before now (HasFloorFrom (disk_in old))
+module _ {D : Type 0} (d : SlotDisk D) where
+  -- What calls do to a journal and to the images of its disk, whether they failed or not.
+  pub record KeepsImages (old new : AheadJournal) (before now : D) : Type 0 where
+    pub link : ahead_link new ≡ ahead_link old
+    pub most : ahead_by new ≡ ahead_by old
+    pub settles : ahead_number old ≤ ahead_number new
+    pub rises : ahead_floor old ≤ ahead_floor new
+    pub is_kept : IsCrashSafe (ahead_disk old) (d.told before) (d.may_leave before)
+        → IsCrashSafe (ahead_disk new) (d.told now) (d.may_leave now)
+    pub any_moment : IsCrashSafe (ahead_disk old) (d.told before) (d.may_leave before)
+        → LeavesOnly d.moment d.left_since before now (HasFloorFrom (ahead_disk old))
 
 module _ {X : Type 0} (x : WayBox X) where
   -- It may take ticks: there is room for what a few of them make.
@@ -140,7 +145,7 @@ module _ {X D : Type 0} (x : WayBox X) (d : SlotDisk D) where
   pub record Settles (old new : WayLines X) (before now : D)
       (result : Result (Unit {0}) Fault) : Type 0 where
     pub same : new.way_box ≡ old.way_box
-    pub images : KeepsImages d old new before now
+    pub images : KeepsImages d (kept_in old) (kept_in new) before now
     pub cause : HasCause (d.faults before) (d.faults now) result
     pub ok : OnOk result (IsSettled old new before now)
     pub failed : OnErr result (IfSome (d.told now) (HasFloorBetween (link_in old) (floor_in old)
@@ -194,7 +199,8 @@ module _ {X P D : Type 0} (x : WayBox X) (p : Port P) (d : SlotDisk D) (way : Wa
   -- below the last number used, and no crash leaves a floor below it.
   pub record HandsOn (old new : WayOutside X P D) (result : Result (Unit {0}) Stop) : Type 0 where
     pub counted : x.taken (way_in new.lines) ≡ x.taken (way_in old.lines)
-    pub images : KeepsImages d old.lines new.lines old.disk new.disk
+    pub number : x.number (way_in new.lines) ≡ x.number (way_in old.lines)
+    pub images : KeepsImages d (kept_in old.lines) (kept_in new.lines) old.disk new.disk
     pub settled : is_journal_fault result ≡ false
         → settled_in new.lines ≡ x.number (way_in old.lines)
     pub reached : is_journal_fault result ≡ false → settled_in new.lines ≤ floor_in new.lines
@@ -205,7 +211,28 @@ module _ {X P D : Type 0} (x : WayBox X) (p : Port P) (d : SlotDisk D) (way : Wa
     pub disk : IsDiskCause (d.faults old.disk) (d.faults new.disk) (is_journal_fault result)
     pub port : PortKept p old.port new.port (is_write_fault result)
     pub may : OnOk result (MayTake x new.lines)
-    pub ahead : IsAhead old.lines → OnOk result (IsAhead new.lines)
-    pub stands : OnOk result (StandsOver new.lines (d.told new.disk))
+    pub ahead : IsAhead old.lines → is_journal_fault result ≡ false → IsAhead new.lines
+    pub stands : is_journal_fault result ≡ false → StandsOver new.lines (d.told new.disk)
     pub handed : OnOk result (Behind old (HandedOn new))
     pub stops : IfErr result (StopsWay old new)
+
+module _ {X D : Type 0} (d : SlotDisk D) where
+  -- The floor of the disk was brought down to the last number for which it was settled, or the disk
+  -- failed on the way.
+  pub record Lowers (old new : WayLines X) (before now : D)
+      (result : Result (Unit {0}) Fault) : Type 0 where
+    pub same : new ≡ record old { kept = kept_in new }
+    pub number : settled_in new ≡ settled_in old
+    pub link : link_in new ≡ link_in old
+    pub most : most_in new ≡ most_in old
+    pub not_below : settled_in old ≤ floor_in new
+    pub is_kept : IsCrashSafe (disk_in old) (d.told before) (d.may_leave before)
+        → IsCrashSafe (disk_in new) (d.told now) (d.may_leave now)
+    pub any_moment : IsCrashSafe (disk_in old) (d.told before) (d.may_leave before)
+        → LeavesOnly d.moment d.left_since before now
+        (HasFloorAtLeast (link_in old) (settled_in old))
+    pub cause : HasCause (d.faults before) (d.faults now) result
+    pub lowered : OnOk result (floor_in new ≡ settled_in old)
+    pub stands : OnOk result (StandsOver new (d.told now))
+    pub failed : OnErr result (IfSome (d.told now) (HasFloorBetween (link_in old) (settled_in old)
+        (floor_in old)))

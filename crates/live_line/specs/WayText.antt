@@ -1,10 +1,10 @@
 -- One stream of text for both ways of a line.
-use Rattle.std.specs.Prelude.{◌≡◌, ◌≢◌, ℕ, ◌==◌, ◌<◌, ◌≤◌, if◌then◌else◌, List, [], ◌∷◌, ◌++◌, length}
-use Rattle.std.specs.Prelude.{take, drop, Option, Some, None, slice_index, true, false}
+use Rattle.std.specs.Prelude.{◌≡◌, ◌≢◌, ℕ, ◌==◌, if◌then◌else◌, List, [], ◌∷◌, ◌++◌}
+use Rattle.std.specs.Prelude.{Option, Some, None, true, false}
 use Rattle.std.specs.List.{flat_map}
-use Rattle.yasir_ticks.specs.TickText.{lines_of}
+use Rattle.yasir_ticks.specs.TickText.{lines_of, line_after}
+use Rattle.line_commands.specs.Counted.{capped}
 use Rattle.live_line.specs.declared.lettered.Lettering.{Lettering}
-use Rattle.live_line.specs.declared.ways.Part.{Part}
 use Rattle.live_line.specs.declared.ways.Way.{Way}
 use Rattle.live_line.specs.declared.ways.Way.TheVariants.{Outgoing, Incoming}
 use Rattle.live_line.specs.declared.ways.Ways.{Ways}
@@ -34,34 +34,43 @@ abbrev pub IsWithin : Option Way → List ℕ → Type 0
 IsWithin None line = line ≡ []
 IsWithin (Some way) line = (rest : List ℕ) × (line ≡ letter_of way ∷ rest)
 
--- Holds if the reader has parted this stream.
-abbrev pub HasParted : Ways → List ℕ → Type 0
-HasParted ways stream = IsWithin ways.within (lines_of stream).last
+-- Holds if a line begins with the letter of a way.
+abbrev pub IsLettered : List ℕ → Type 0
+IsLettered line = (way : Way) × ((rest : List ℕ) × (line ≡ letter_of way ∷ rest))
 
--- Holds if these bytes came after a stream, and the reader has parted them too: those after the first
--- `skip` are added to the text of this way, and no other text has got any.
-pub record Adds (ways : Ways) (way : Way) (stream bytes : List ℕ) (skip : ℕ) : Type 0 where
-  pub parted : HasParted ways (stream ++ bytes)
-  pub own : text_on way (stream ++ bytes) ≡ text_on way stream ++ drop skip bytes
-  pub others : (other : Way) → other ≢ way → text_on other (stream ++ bytes) ≡ text_on other stream
+-- Holds if each of these lines begins with the letter of a way.
+abbrev pub AreLettered : List (List ℕ) → Type 0
+AreLettered [] = Unit {0}
+AreLettered (line ∷ lines) = IsLettered line × AreLettered lines
 
--- Holds if the first `taken` of these bytes came after a stream, at least one of them.
-pub record Parts (ways : Ways) (stream bytes : List ℕ) (part : Part) : Type 0 where
-  pub some : 0 < part.taken
-  pub within : part.taken ≤ length bytes
-  pub skips : part.skip ≤ part.taken
-  pub adds : Adds ways part.way stream (take part.taken bytes) part.skip
+-- Holds if the reader has read this stream: each line that has ended begins with the letter of a
+-- way, and it counts the lines.
+pub record HasParted (ways : Ways) (stream : List ℕ) : Type 0 where
+  pub within : IsWithin ways.within (lines_of stream).last
+  pub lettered : AreLettered (lines_of stream).ended
+  pub line : ways.line ≡ capped (line_after stream)
 
--- Holds if the first `taken` of these bytes go on with a line of this way, which has begun.
-pub record Goes (ways : Ways) (way : Way) (stream bytes : List ℕ) (taken : ℕ) : Type 0 where
-  pub some : 0 < length bytes → 0 < taken
-  pub within : taken ≤ length bytes
-  pub adds : Adds ways way stream (take taken bytes) 0
+-- Holds if a line begins with this byte, which is the letter of a way. No text has got any byte.
+pub record BeginsLine (ways : Ways) (stream : List ℕ) (byte : ℕ) : Type 0 where
+  pub parted : HasParted ways (stream ++ byte ∷ [])
+  pub same : (way : Way) → text_on way (stream ++ byte ∷ []) ≡ text_on way stream
 
--- A line begins with a byte that is no letter.
-pub record RefusesLine (stream bytes : List ℕ) : Type 0 where
+-- Holds if this byte is added to the text of this way, and no other text has got any byte.
+pub record AddsByte (ways : Ways) (way : Way) (stream : List ℕ) (byte : ℕ) : Type 0 where
+  pub parted : HasParted ways (stream ++ byte ∷ [])
+  pub own : text_on way (stream ++ byte ∷ []) ≡ text_on way stream ++ byte ∷ []
+  pub others : (other : Way) → other ≢ way
+      → text_on other (stream ++ byte ∷ []) ≡ text_on other stream
+
+-- Holds if this byte was read after a stream: it is one of the text of this way, or of none.
+abbrev pub PartsByte : Ways → List ℕ → ℕ → Option Way → Type 0
+PartsByte ways stream byte None = BeginsLine ways stream byte
+PartsByte ways stream byte (Some way) = AddsByte ways way stream byte
+
+-- Holds if a line begins with this byte, and it is the letter of no way.
+pub record RefusesLine (stream : List ℕ) (byte : ℕ) : Type 0 where
   pub begins : (lines_of stream).last ≡ []
-  pub is_no_letter : (way : Way) → slice_index bytes 0 ≢ letter_of way
+  pub is_no_letter : (way : Way) → byte ≢ letter_of way
 
 -- Holds if each line of a text has ended.
 abbrev pub AreEnded : List ℕ → Type 0

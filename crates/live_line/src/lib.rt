@@ -2,9 +2,9 @@
 //! from the device to the link, or `<` from the link to the device. What is made of both ways goes
 //! out through one port, for each way the notes first.
 //!
-//! The parts of a stream that are of each way:
+//! The bytes of a stream that are of each way:
 //!
-//!     let part = ways.part(bytes)?;
+//!     let of = ways.next(byte)?;
 //!
 //! One way: its box takes ticks, and what it makes of them waits until it is handed on.
 //!
@@ -30,4 +30,4 @@ pub use receiving::read_ways;
 pub use sending::{hand_on_way, handed_ways_are_in_order, send_way};
 pub use way_box::{EndedNotes, WayBox};
 pub use way_lines::WayLines;
-pub use ways::{BadWay, Part, Way, Ways};
+pub use ways::{BadWay, Way, Ways};

@@ -1,6 +1,9 @@
 //! What one way of a live line makes of its ticks, with the journal of its numbers. It waits until
 //! it is handed on, and before anything is handed on, the disk is settled for it.
-ghost use Rattle.std.specs.Prelude.{◌≡◌, ◌<◌, ◌≤◌, [], true, false, Option};
+ghost use Rattle.std.specs.Prelude.{◌≡◌, ◌<◌, ◌≤◌, [], ◌∷◌, true, false, Option};
+ghost use Rattle.yasir_ticks.specs.TickRun.{run_items};
+ghost use Rattle.yasir_ticks.specs.Ticks.Item.{tick as tick_item};
+ghost use Rattle.tick_drive.specs.Consumers as consumers;
 ghost use Rattle.yasir_io.specs.Disks.{Slots};
 ghost use Rattle.yasir_ticks.specs.declared.TheConstants.{MAX_TICKS};
 ghost use Rattle.link_format.specs.Setup.{Setup};
@@ -8,7 +11,8 @@ ghost use Rattle.sequence_journal.specs.Journal.{journal_floor, Fits};
 ghost use Rattle.line_texts.specs.Adding.{TextHasRoom};
 ghost use Rattle.live_line.specs.WayLines.{MayTake, MayHandOn, HasTakenOn, TakesTick, Settles};
 ghost use Rattle.live_line.specs.WayLines.{HandsOn, IsAhead, StandsOver, way_outside};
-ghost use Rattle.live_line.specs.WayLines.{settled_in, disk_in, most_in, way_in};
+ghost use Rattle.live_line.specs.WayLines.{settled_in, disk_in, most_in, way_in, Lowers};
+ghost use Rattle.live_line.specs.WayRuns as runs;
 
 use crate::sending::hand_on_way;
 use crate::way_box::WayBox;
@@ -18,7 +22,7 @@ use line_texts::Texts;
 use sequence_journal::{AheadJournal, Journal, JournalFault};
 use tick_drive::Stop;
 use yasir_io::{Failed, SlotDisk};
-use yasir_ticks::Tick;
+use yasir_ticks::{Tick, TickRun};
 
 /// One way of a live line, the journal of its numbers, and the texts that are made of its line.
 #[derive(Drop)]
@@ -128,5 +132,92 @@ impl<X: WayBox> WayLines<X> {
         }
         self.texts.empty();
         Ok(())
+    }
+
+    /// Hands on all that waits, for a caller that goes on with what a run of ticks leaves.
+    pub fn hand_all<P: Port, D: SlotDisk>(
+        &mut self,
+        way: Way,
+        port: &mut P,
+        disk: &mut D,
+    ) -> Result<(), Stop>
+        /// There is room for the line that isn't filled.
+        requires may { MayHandOn X.WayBox self.old }
+        /// The floor of the disk is from the number for which it was settled to `ahead` above it.
+        requires ahead { IsAhead self.old }
+        /// The disk is as the journal knows it.
+        requires stands { StandsOver self.old (D.told disk.old) }
+        /// Nothing waits then, and all is handed on; or it was stopped by a settle, or by a write
+        /// or a flush.
+        ensures { runs.HandsAll X.WayBox P.Port D.SlotDisk way
+            (way_outside self.old port.old disk.old) (way_outside self.new port.new disk.new)
+            result }
+    {
+        self.hand_on(way, port, disk)
+    }
+
+    // Takes a tick, and hands on all that waits if there is no room for more.
+    fn take_tick<P: Port, D: SlotDisk>(
+        &mut self,
+        way: Way,
+        port: &mut P,
+        disk: &mut D,
+        tick: Tick,
+    ) -> Result<(), Stop>
+        requires count { X.taken (way_in self.old) < MAX_TICKS }
+        requires able { runs.IsAbleWay X.WayBox P.Port D.SlotDisk way
+            (way_outside self.old port.old disk.old) }
+        ensures { consumers.Gives (runs.way_filtering X.WayBox P.Port D.SlotDisk way)
+            (way_outside self.old port.old disk.old) (way_outside self.new port.new disk.new)
+            (tick_item tick ∷ []) result }
+    {
+        self.take(tick);
+        if self.has_room() {
+            return Ok(());
+        }
+        self.hand_all(way, port, disk)
+    }
+
+    /// Takes the ticks of a run, in order. What is made of them waits, and is handed on whenever
+    /// there is no room for more.
+    pub fn take_run<P: Port, D: SlotDisk>(
+        &mut self,
+        way: Way,
+        port: &mut P,
+        disk: &mut D,
+        run: TickRun<'_>,
+    ) -> Result<(), Stop>
+        /// The box may count these ticks, the disk is as its journal knows it, and there is room
+        /// for what a few ticks make.
+        requires { consumers.MayTake (runs.way_filtering X.WayBox P.Port D.SlotDisk way)
+            (way_outside self.old port.old disk.old) (run_items run) }
+        /// It has taken the ticks of the run, and what it makes of them is handed on or waits; or
+        /// it was stopped at one of them by a settle, or by a write or a flush.
+        ensures { consumers.Gives (runs.way_filtering X.WayBox P.Port D.SlotDisk way)
+            (way_outside self.old port.old disk.old) (way_outside self.new port.new disk.new)
+            (run_items run.entry) result }
+    {
+        let mut following = run;
+        while !following.is_empty() {
+            match self.take_tick(way, port, disk, following.first()) {
+                Ok(()) => following = following.behind(1),
+                Err(stop) => return Err(stop),
+            }
+        }
+        Ok(())
+    }
+
+    /// Brings the floor of the disk down to the last number for which it was settled, at the end of
+    /// the input.
+    pub fn lower<D: SlotDisk>(&mut self, disk: &mut D) -> Result<(), JournalFault>
+        /// The floor of the disk is from the number for which it was settled to `ahead` above it.
+        requires ahead { IsAhead self.old }
+        /// The disk is as the journal knows it.
+        requires stands { StandsOver self.old (D.told disk.old) }
+        /// The floor of the disk is that number, or the disk's count of faults rose. If the journal
+        /// was crash-safe, no crash at any moment leaves a floor below that number.
+        ensures { Lowers D.SlotDisk self.old self.new disk.old disk.new result }
+    {
+        self.kept.lower(disk)
     }
 }

@@ -10,6 +10,7 @@ use Rattle.live_line.proofs.way_lines.WayLines.hand_on.Goals as goal
 pub returns-in-Err : goal.returns-in-Err
 returns-in-Err g c = let did = c.in-Err.ensures in record {
   counted = ap g.X.WayBox.taken did.same;
+  number = ap g.X.WayBox.number did.same;
   images = did.images;
   settled = λ e. cc;
   reached = λ e. cc;
@@ -21,8 +22,8 @@ returns-in-Err g c = let did = c.in-Err.ensures in record {
   };
   port = port_same g.P.Port c.args.port.now;
   may = tt;
-  ahead = λ ahead. tt;
-  stands = tt;
+  ahead = λ ahead e. cc;
+  stands = λ e. cc;
   handed = tt;
   stops = (refl, did.failed);
 }
@@ -33,6 +34,7 @@ returns-in-Err-hand_on_way g c =
     let wrote = c.in-Err-hand_on_way.ensures in
     record {
       counted = ap g.X.WayBox.taken did.same;
+      number = ap g.X.WayBox.number did.same;
       images = did.images;
       settled = λ e. did.ok.settled;
       reached = λ e. did.ok.reached;
@@ -44,8 +46,8 @@ returns-in-Err-hand_on_way g c =
       };
       port = port_failed g.P.Port c.args.port.now c.hand_on_way.new.port _ wrote.cause;
       may = tt;
-      ahead = λ ahead. tt;
-      stands = tt;
+      ahead = λ ahead e. did.ok.ahead ahead;
+      stands = λ e. did.ok.stands;
       handed = tt;
       stops = handed_fronts g.X.WayBox g.P.Port g.D.SlotDisk c.args.way
           (way_outside c.args.self.now c.args.port.now c.args.disk.now) c.settle.new.self
@@ -62,6 +64,7 @@ returns g c =
     let empty = c.empty.ensures in
     record {
       counted = ap g.X.WayBox.taken did.same;
+      number = ap g.X.WayBox.number did.same;
       images = record {
         link = did.images.link;
         most = did.images.most;
@@ -88,9 +91,9 @@ returns g c =
         ended = subst AreEnded (sym empty.notes) ended_nil;
         level = omega (arith, did.ok.settled, ap g.X.WayBox.number did.same);
       };
-      ahead = λ ahead. let level = did.ok.ahead ahead in
+      ahead = λ ahead e. let level = did.ok.ahead ahead in
           record { covers = level.covers; within = level.within };
-      stands = did.ok.stands;
+      stands = λ e. did.ok.stands;
       handed = handed_all g.X.WayBox g.P.Port g.D.SlotDisk c.args.way
           (way_outside c.args.self.now c.args.port.now c.args.disk.now) c.settle.new.self
           c.note_text.result.now c.tick_text.result.now did.ok.closes c.note_text.ensures

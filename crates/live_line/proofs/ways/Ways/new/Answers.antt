@@ -4,4 +4,4 @@ use Rattle.live_line.proofs.ways.Ways.new.Goals as goal
 
 pub returns : goal.returns
 unfolding lines_of
-returns c = refl
+returns c = record { within = refl; lettered = tt; line = refl }
