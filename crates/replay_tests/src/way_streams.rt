@@ -1,6 +1,6 @@
 //! A test of streams of two ways: what is of each way in a stream that comes in pieces.
 use arrayvec::ArrayVec;
-use live_line::{BadWay, Part, Way, Ways};
+use live_line::{BadWay, Way, Ways};
 use std::test::Fail;
 
 /// The texts of both ways.
@@ -12,21 +12,13 @@ struct WayTexts {
 
 // Parts the next bytes of a stream, and adds them to the texts of their ways.
 fn add_piece(ways: &mut Ways, texts: &mut WayTexts, piece: &[u8]) -> Result<(), BadWay> {
-    let mut left = piece;
-    for _ in 0..64 {
-        if left.is_empty() {
-            return Ok(());
-        }
-        let Part { way, skip, taken } = match ways.part(left) {
-            Ok(part) => part,
+    for byte in piece {
+        let _ = match ways.next(*byte) {
+            Ok(Some(Way::Outgoing)) => texts.outgoing.try_extend_from_slice(&[*byte]),
+            Ok(Some(Way::Incoming)) => texts.incoming.try_extend_from_slice(&[*byte]),
+            Ok(None) => Ok(()),
             Err(bad) => return Err(bad),
         };
-        let added = &left[skip..taken];
-        let _ = match way {
-            Way::Outgoing => texts.outgoing.try_extend_from_slice(added),
-            Way::Incoming => texts.incoming.try_extend_from_slice(added),
-        };
-        left = &left[taken..];
     }
     Ok(())
 }
