@@ -36,14 +36,21 @@ def some_frame(proto, chance):
     return [byte for part in parts for byte in part + list(Dnp3.end(part))]
 
 
-def some_session(chance):
-    """An untouched session of 2 to 6 frames, all of which are sealed, pass and are read."""
+def with_gaps(frame, chance):
+    """A frame with a silent tick between some of its bytes, but never two in a row."""
+    ticks = [tick for byte in frame for tick in ([byte, None] if chance.randrange(3) == 0 else [byte])]
+    return ticks[:-1] if ticks[-1] is None else ticks
+
+
+def some_session(chance, gaps=False):
+    """An untouched session of 2 to 6 frames, all of which are sealed, pass and are read. With `gaps`, frames have silent ticks inside."""
     proto, profile, direction = chance.choice([Rtu, Dnp3]), chance.choice([Y18, Y24]), chance.randrange(2)
     key = bytes(chance.randrange(256) for _ in range(chance.choice([16, 32, 64])))
     floor = chance.choice([0, 0, 7, 65530, 70000, LIMIT - 20])
     device = [None] * chance.choice([0, 5, 40])
     for _ in range(chance.randrange(2, 7)):
-        device += some_frame(proto, chance) + [None] * chance.choice([profile.delay + PAUSE, 30, 60])
+        frame = some_frame(proto, chance)
+        device += (with_gaps(frame, chance) if gaps else frame) + [None] * chance.choice([profile.delay + PAUSE, 30, 60])
     got = max(0, floor - chance.choice([0, 0, 3, 500]))
     link, _, _, sent = model.seal(proto, key, direction, floor, device, profile)
     return heard(Session(proto, profile, key, direction, (floor, got), device, link, None, sent))
@@ -425,6 +432,18 @@ def spaced_and_changed(session, chance):
     return may_be_late(session._replace(received=other_byte(session.received, start + chance.randrange(len(frame)), chance)), 0, 9, True)
 
 
+def uneven(change):
+    """The same of a session whose frames have silent ticks inside, which a spacer leaves out."""
+    return lambda session, chance: change(some_session(chance, gaps=True), chance)
+
+
+def one_tick_off(session, chance):
+    """The spaced line of a session whose frames have silent ticks inside, a tick earlier or later."""
+    session = spaced_line(some_session(chance, gaps=True))
+    received = chance.choice([[None] + session.received, session.received[1:]])
+    return may_be_late(session._replace(received=received), *chance.choice([(0, 0), (2, 9)]), True)
+
+
 def without_a_spacer(session, chance):
     return may_be_late(session, 0, chance.choice([0, 0, 9]), True)
 
@@ -459,6 +478,11 @@ LIVE = {
     "spacer: a trailer changed": (spaced_after(on_link(change_a_trailer)), CLEAN),
     "spacer: noise after it": (spaced_after(noise_between), CLEAN),
     "spacer: a byte changed behind it": (spaced_and_changed, DIFFERS),
+    "spacer: frames with silence inside": (uneven(spaced), CLEAN),
+    "spacer: such frames, in the range": (uneven(spaced_and_late), CLEAN),
+    "spacer: such frames, one removed": (uneven(spaced_after(on_link(remove))), CLEAN),
+    "spacer: such frames, a byte changed": (uneven(spaced_and_changed), DIFFERS),
+    "spacer: such frames, a tick off": (one_tick_off, DIFFERS),
     "spacer: not said": (not_said_to_be_spaced, DIFFERS),
     "spacer: said, and there is none": (without_a_spacer, DIFFERS),
 }

@@ -371,8 +371,8 @@ def frame_or_none(word, frame):
     return "%s none\n" % word if frame is None else "%s at %d %s\n" % (word, frame[0], bytes(frame[1]).hex())
 
 
-# How late the frames that passed may be read: from `least` to `most` ticks later than the receiver sends them or, if the third line
-# is `spaced`, than a spacer behind the receiver does.
+# How late the frames that are expected may be read: from `least` to `most` ticks later than the receiver sends them or, if the third
+# line is `spaced`, than a device reads them of the spaced line of what the receiver sends.
 Late = collections.namedtuple("Late", "least most spaced")
 EXACT = Late(0, 0, False)
 
@@ -392,7 +392,7 @@ def audit(proto, key, direction, floors, line, link, received, profile=Y18, late
     read, forged = reads(proto, received), forged_of(sealed, passed)
     expected = [(start + profile.delay, frame) for _, start, frame in passed]
     if late.spaced:
-        expected = [(begin, frame) for _, begin, frame in space(proto, sent, profile)[2]]
+        expected = reads(proto, space(proto, sent, profile)[0])
     pairs = itertools.zip_longest(expected, read)
     places = [place for place, (one, other) in enumerate(pairs) if not is_in_time(one, other, late)]
     found, frames = "clean", ""

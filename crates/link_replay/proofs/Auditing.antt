@@ -1,51 +1,46 @@
 -- The session that the words of an audit ask for, its verdict, and what is left if the input didn't
 -- end well.
-use Rattle.line_commands.specs.LinkBoxes.{seal_rest}
-use Rattle.link_box.specs.Checking.{passed}
-use Rattle.command_ends.specs.Links.{rules_of, link_profile_of, delay_of, device_reads}
-use Rattle.command_ends.specs.Links.{gap_of, silence_of}
+use Rattle.command_ends.specs.Links.{rules_of, link_profile_of, device_reads, gap_of}
 use Rattle.command_ends.specs.declared.link.Profile.{Profile, TheVariants.Y18, TheVariants.Y24}
 use Rattle.command_ends.specs.declared.link.Proto.{Proto}
 use Rattle.link_replay.specs.AuditCommand.{AuditsItems, PrintsFinding, finding_status, verdict_in}
-use Rattle.link_replay.specs.AuditCommand.{verdict_text, lateness_by, spacer_of}
+use Rattle.link_replay.specs.AuditCommand.{audited_verdict, verdict_text}
 use Rattle.link_replay.specs.declared.words.Audited.{Audited}
-use Rattle.{session_audit.specs.Recorded.IsRecordedWith, session_lists.specs.Listed.link_rest}
+use Rattle.session_audit.specs.Recorded.{IsRecordedWith}
 use Rattle.command_ends.specs.{Causes.InputCause, Causes.SinkCause, Endings.status_of}
 use Rattle.command_ends.specs.{Flushes.FlushesAtEnd, PrintsText.PrintsText}
 use Rattle.command_ends.specs.declared.status.Status.{Status}
 use Rattle.command_ends.specs.declared.status.Status.TheVariants as statuses
 use Rattle.command_ends.specs.declared.status.Status.TheVariants.{Done, NoMemory, WriteFault}
 use Rattle.command_ends.specs.declared.status.Unclean.{Unclean}
-use Rattle.link_box.specs.Sealing.{sealed}
 use Rattle.sequence_journal.specs.declared.numbers.TheConstants.{LIMIT}
 use Rattle.session_audit.specs.{AuditedInput.FindsNoVerdict, Sessions.LinkKind}
-use Rattle.session_audit.specs.Sessions.{sent_setup, got_setup, verdict_with, spacing_of}
-use Rattle.session_lists.specs.declared.lateness.Spacing.{Spacing}
-use Rattle.session_audit.specs.Verdicts.{verdict_on}
+use Rattle.session_audit.specs.Sessions.{verdict_with}
 use Rattle.session_audit.specs.declared.{session.Session.Session, verdict.Verdict.Verdict}
 use Rattle.session_audit.specs.declared.verdict.Finding.{Finding}
 use Rattle.session_audit.specs.declared.verdict.Finding.TheVariants.{Clean}
-use Rattle.std.proofs.Common.{◌≡◌, ◌⊎◌, ◌∙◌, ℕ, List, ◌++◌, Option, inl, inr, refl}
-use Rattle.std.proofs.Common.{subst, sym, ap, Bool, true, false}
+use Rattle.std.proofs.Common.{◌≡◌, ◌⊎◌, ◌∙◌, ℕ, List, Option, inl, inr, refl}
+use Rattle.std.proofs.Common.{subst, sym, ap}
 use Rattle.std.proofs.Common.{arith}
 use Rattle.std.specs.Io.KnownBytes.{append_known}
 use Rattle.tick_drive.specs.declared.{consumer.Stop.Stop, end.End.End, end.End.TheVariants.Whole}
 use Rattle.tick_drive.specs.declared.end.End.TheVariants.{Stopped}
 use Rattle.yasir_io.specs.declared.sink.Sink.{Ghosts as Sink}
-use Rattle.yasir_ticks.specs.Ticks.{Item, silent}
-use Rattle.yasir_ticks.specs.declared.{TheConstants.T3_5_TICKS, tick.Tick.Tick}
+use Rattle.yasir_ticks.specs.Ticks.{Item}
+use Rattle.yasir_ticks.specs.declared.tick.Tick.{Tick}
 
 -- ---- the session
 
--- the verdict on recordings of a session of this protocol and this profile
-abbrev verdict_by : Proto → Profile → Session → List Tick → List Tick → List Tick → Verdict
-verdict_by proto profile session device link received =
-    verdict_on (lateness_by proto profile session.tolerance)
-    (sealed (link_profile_of profile (rules_of proto).label LIMIT (sent_setup session))
-    (rules_of proto) session.sent_floor (device ++ silent (seal_rest profile)))
-    (passed (link_profile_of profile (rules_of proto).label LIMIT (got_setup session))
-    (rules_of proto) session.got_floor (link ++ silent link_rest))
-    (device_reads proto (received ++ silent T3_5_TICKS))
+-- the words that ask for the audit of a session of this protocol and this profile
+abbrev asked_by : Proto → Profile → Session → Audited
+asked_by proto profile session = record {
+  proto = proto;
+  profile = profile;
+  dir = session.dir;
+  sent_floor = session.sent_floor;
+  got_floor = session.got_floor;
+  tolerance = session.tolerance;
+}
 
 -- what belongs to a protocol and a profile
 abbrev kind_by : Proto → Profile → LinkKind
@@ -53,40 +48,15 @@ kind_by proto profile = record {
   profile = link_profile_of profile (rules_of proto).label LIMIT;
   rules = rules_of proto;
   reads = device_reads proto;
-  silence = silence_of proto;
   gap = gap_of profile;
 }
-
-spacer-is : (proto : Proto) (profile : Profile) (spaced : Bool)
-    → spacing_of (kind_by proto profile) spaced ≡ spacer_of proto profile spaced
-spacer-is proto profile true = refl
-spacer-is proto profile false = refl
-
--- the verdict if the spacer is this one, or there is none
-abbrev verdict_behind : Proto → Profile → Session → List Tick → List Tick → List Tick
-    → Option Spacing → Verdict
-verdict_behind proto profile session device link received spacing = verdict_on (record {
-  late = delay_of profile;
-  spacing = spacing;
-  least = session.tolerance.least;
-  most = session.tolerance.most;
-})
-    (sealed (link_profile_of profile (rules_of proto).label LIMIT (sent_setup session))
-    (rules_of proto) session.sent_floor (device ++ silent (seal_rest profile)))
-    (passed (link_profile_of profile (rules_of proto).label LIMIT (got_setup session))
-    (rules_of proto) session.got_floor (link ++ silent link_rest))
-    (device_reads proto (received ++ silent T3_5_TICKS))
 
 pub verdict-is : (proto : Proto) (profile : Profile) (session : Session)
     (device link received : List Tick)
     → verdict_with (kind_by proto profile) session device link received
-    ≡ verdict_by proto profile session device link received
-verdict-is proto Y18 session device link received =
-    ap (verdict_behind proto Y18 session device link received)
-    (spacer-is proto Y18 session.tolerance.spaced)
-verdict-is proto Y24 session device link received =
-    ap (verdict_behind proto Y24 session device link received)
-    (spacer-is proto Y24 session.tolerance.spaced)
+    ≡ audited_verdict (asked_by proto profile session) session.key.now device link received
+verdict-is proto Y18 session device link received = refl
+verdict-is proto Y24 session device link received = refl
 
 -- ---- the status of what was found
 

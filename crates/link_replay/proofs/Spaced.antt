@@ -10,7 +10,8 @@ use Rattle.command_ends.specs.{Outside.Outside, Outside.outside, declared.status
 use Rattle.command_ends.specs.declared.status.Status.TheVariants.{Done}
 use Rattle.line_commands.specs.{SpacedTexts.most_waiting, SpacesLine.SpacesLine}
 use Rattle.{line_commands.specs.SpacesLine.space_rest, spacer_laws.proofs.Leaving.rtu-leave}
-use Rattle.spacer_laws.{proofs.Leaving.hunt-leave, specs.Leaving.HaveLeft, specs.Leaving.AllLeave}
+use Rattle.spacer_laws.proofs.Leaving.{hunt-leave, left-by}
+use Rattle.spacer_laws.specs.Leaving.{HaveLeft, AllLeave}
 use Rattle.std.proofs.Common.{◌≡◌, ◌∙◌, ℕ, List, ◌++◌, length, Option, ap, sym}
 use Rattle.std.proofs.Common.{subst, arith, refl}
 use Rattle.tick_drive.proofs.ItemLaws.{ticks_in-append}
@@ -23,12 +24,22 @@ use Rattle.yasir_ticks.specs.declared.{tick.Tick.Tick, tick_run.TickRun.TheVaria
 -- The silence that follows an input is long enough for all accepted frames to leave.
 all-leave : (proto : Proto) (profile : Profile) (line : List Tick) → AreTicks line
     → AllLeave (device_reads proto) (gap_of profile) most_waiting line space_rest
-all-leave Rtu Y18 line are = rtu-leave 4 2 21 64 line 21000 (omega arith)
-all-leave Rtu Y24 line are = rtu-leave 4 2 27 64 line 21000 (omega arith)
+all-leave Rtu Y18 line are =
+    left-by (length (line ++ silent 21000))
+    (accepted_of (device_reads Rtu) 21 64 (line ++ silent 21000))
+    (rtu-leave 4 2 21 64 line 21000 0 (omega arith))
+all-leave Rtu Y24 line are =
+    left-by (length (line ++ silent 21000))
+    (accepted_of (device_reads Rtu) 27 64 (line ++ silent 21000))
+    (rtu-leave 4 2 27 64 line 21000 0 (omega arith))
 all-leave Dnp3 Y18 line are =
-    hunt-leave 0x05 0x64 dnp_rules dnp_lawful dnp_framed 21 0 64 line 21000 are (omega arith)
+    left-by (length (line ++ silent 21000))
+    (accepted_of (device_reads Dnp3) 21 64 (line ++ silent 21000))
+    (hunt-leave 0x05 0x64 dnp_rules dnp_lawful dnp_framed 21 0 64 line 21000 0 are (omega arith))
 all-leave Dnp3 Y24 line are =
-    hunt-leave 0x05 0x64 dnp_rules dnp_lawful dnp_framed 27 0 64 line 21000 are (omega arith)
+    left-by (length (line ++ silent 21000))
+    (accepted_of (device_reads Dnp3) 27 64 (line ++ silent 21000))
+    (hunt-leave 0x05 0x64 dnp_rules dnp_lawful dnp_framed 27 0 64 line 21000 0 are (omega arith))
 
 whole-left : (proto : Proto) (profile : Profile) (before now : Option (List ℕ)) (items : List Item)
     → Takes 0 space_rest before now items Whole

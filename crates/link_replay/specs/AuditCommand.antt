@@ -1,7 +1,7 @@
 -- The command `audit`: the verdict on three recordings of a session. These are a line of the device
 -- that sends, the link, and a line of the device that receives. Each box begins at a floor that is
 -- given.
-use Rattle.std.specs.Prelude.{◌≡◌, ℕ, Bool, true, false, List, [], ◌++◌, Option, Some, None, codes}
+use Rattle.std.specs.Prelude.{◌≡◌, ℕ, List, [], ◌++◌, Option, Some, None, codes}
 use Rattle.std.specs.Prelude.{decimal}
 use Rattle.std.specs.Io.KnownBytes.{append_known}
 use Rattle.yasir_io.specs.Output.{GotPrefix}
@@ -16,30 +16,29 @@ use Rattle.link_format.specs.Profile.{Profile as LinkProfile}
 use Rattle.link_format.specs.Setup.{setup_of}
 use Rattle.sequence_journal.specs.declared.numbers.TheConstants.{LIMIT}
 use Rattle.link_box.specs.Sealing.{sealed}
-use Rattle.link_box.specs.Checking.{passed}
-use Rattle.session_lists.specs.Listed.{link_rest}
-use Rattle.session_lists.specs.declared.lateness.Lateness.{Lateness}
-use Rattle.session_lists.specs.declared.lateness.Spacing.{Spacing}
+use Rattle.link_box.specs.Checking.{passed, received_line}
+use Rattle.link_format.specs.NumberedFrame.{NumberedFrame}
+use Rattle.session_lists.specs.Expected.{expected_by}
 use Rattle.command_ends.specs.Outside.{Outside}
 use Rattle.command_ends.specs.declared.status.Status.{Status}
 use Rattle.command_ends.specs.declared.status.Status.TheVariants.{Done, Unclean, WriteFault}
 use Rattle.command_ends.specs.declared.status.Unclean.TheVariants as unclean
 use Rattle.session_lists.specs.Parts.{part}
+use Rattle.session_audit.specs.Sessions.{lateness_of, rest_behind}
+use Rattle.session_audit.specs.SpacedReads.{spaced_reads}
 use Rattle.session_audit.specs.Verdicts.{verdict_on}
-use Rattle.session_audit.specs.declared.session.Tolerance.{Tolerance}
 use Rattle.session_audit.specs.declared.verdict.Counts.{Counts}
 use Rattle.session_audit.specs.declared.verdict.Finding.{Finding}
 use Rattle.session_audit.specs.declared.verdict.Finding.TheVariants.{Empty, Forged, Differs, Clean}
 use Rattle.session_audit.specs.declared.verdict.Verdict.{Verdict}
 use Rattle.session_audit.specs.Keyed.{ReadsKeyFirst, LeavesAll}
 use Rattle.session_audit.specs.Recorded.{PrintsItems, IsRecordedWith}
-use Rattle.command_ends.specs.Links.{rules_of, link_profile_of, delay_of, gap_of, silence_of}
+use Rattle.command_ends.specs.Links.{rules_of, link_profile_of, delay_of, gap_of}
 use Rattle.link_replay.specs.ReadCommand.{device_reads}
 use Rattle.link_replay.specs.ReplayCommand.{IsListable}
 use Rattle.line_commands.specs.LinkBoxes.{seal_rest}
 use Rattle.link_replay.specs.declared.words.Audited.{Audited}
 use Rattle.command_ends.specs.declared.link.Profile.{Profile}
-use Rattle.command_ends.specs.declared.link.Proto.{Proto}
 
 -- `empty`, `forged N at T`, `differs I` or `clean`
 abbrev pub finding_words : Finding → List ℕ
@@ -85,36 +84,39 @@ PrintsFinding text before now finding WriteFault = GotPrefix before now text
 PrintsFinding text before now finding status =
     (status ≡ finding_status finding) × (now ≡ append_known before text)
 
--- the spacer of a protocol and a profile behind the receiver, if there is one
-abbrev pub spacer_of : Proto → Profile → Bool → Option Spacing
-spacer_of proto profile true = Some (record { silence = silence_of proto; gap = gap_of profile })
-spacer_of proto profile false = None
-
--- When the frames that passed must be read: later by the receiver's delay and, behind a spacer, when
--- it sends them, and from there as many ticks later as may be.
-abbrev pub lateness_by : Proto → Profile → Tolerance → Lateness
-lateness_by proto profile tolerance = record {
-  late = delay_of profile;
-  spacing = spacer_of proto profile tolerance.spaced;
-  least = tolerance.least;
-  most = tolerance.most;
-}
-
 module _ (asked : Audited) (key : List ℕ) where
   -- the profile of the link with this key, for a box whose journal has this floor at the start
   abbrev pub audited_profile : ℕ → LinkProfile
   audited_profile floor = link_profile_of asked.profile (rules_of asked.proto).label LIMIT
       (setup_of key asked.dir floor)
 
+  -- the link, and the silence that follows it
+  abbrev pub audited_link : List Tick → List Tick
+  audited_link link = link ++ silent (rest_behind asked.tolerance.spaced)
+
+  -- the frames that the receiver passes of the second recording
+  abbrev pub passed_of_link : List Tick → List NumberedFrame
+  passed_of_link link = passed (audited_profile asked.got_floor) (rules_of asked.proto)
+      asked.got_floor (audited_link link)
+
+  -- The frames that the stated device should read: those that pass, each later by the receiver's
+  -- delay or, behind a spacer, those that it reads of the spaced line of what the receiver sends.
+  abbrev pub expected_of_link : List Tick → List FrameRead
+  expected_of_link link =
+      expected_by asked.tolerance.spaced (delay_of asked.profile) (passed_of_link link)
+      (spaced_reads (device_reads asked.proto) (gap_of asked.profile)
+      (received_line (audited_profile asked.got_floor) (rules_of asked.proto) asked.got_floor
+      (audited_link link)))
+
   -- the verdict on the frames that the transmitter seals of the first recording, those that the
-  -- receiver passes of the second, and those that the stated device reads from the third
+  -- receiver passes of the second, and those that the stated device should read and reads from the
+  -- third
   abbrev pub audited_verdict : List Tick → List Tick → List Tick → Verdict
   audited_verdict device link received =
-      verdict_on (lateness_by asked.proto asked.profile asked.tolerance)
+      verdict_on (lateness_of (delay_of asked.profile) asked.tolerance)
       (sealed (audited_profile asked.sent_floor) (rules_of asked.proto) asked.sent_floor
       (device ++ silent (seal_rest asked.profile)))
-      (passed (audited_profile asked.got_floor) (rules_of asked.proto) asked.got_floor
-      (link ++ silent link_rest))
+      (passed_of_link link) (expected_of_link link)
       (device_reads asked.proto (received ++ silent T3_5_TICKS))
 
   -- the verdict on the three recordings that two marks part

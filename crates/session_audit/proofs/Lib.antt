@@ -4,11 +4,13 @@ pub mod Starting
 pub mod RunNotes
 pub mod Showing
 pub mod Lately
+pub mod Spaced
 mod Auditing
 pub mod Judged
 pub mod SealedAlike
 pub mod Starts
 pub mod Parts
+pub mod Unlisting
 mod Worked
 pub mod Pushing
 pub mod InOrder

@@ -1,5 +1,6 @@
 -- What a clean verdict says of three recordings.
-use Rattle.std.specs.Prelude.{◌≡◌, ◌≤◌, false, List, length, map}
+use Rattle.std.specs.Prelude.{◌≡◌, ◌≤◌, true, false, List, length, map}
+use Rattle.yasir_ticks.specs.Ticks.{AreTicks}
 use Rattle.yasir_ticks.specs.declared.tick.Tick.{Tick}
 use Rattle.sequence_journal.specs.Uptimes.{RiseFrom}
 use Rattle.link_format.specs.NumberedFrame.{numbers_of}
@@ -12,17 +13,20 @@ use Rattle.session_audit.specs.Sessions.{read_in, expected_in}
 use Rattle.session_audit.specs.declared.session.Session.{Session}
 use Rattle.session_audit.specs.declared.verdict.Counts.{Counts}
 
--- Holds if the frames that were read are those that passed, in their order, each in a tick in which
--- it may be read, and the frames that passed are, with their numbers, a subsequence of those that
--- were sealed. So the frames that were read are a subsequence of them too. On both sides the numbers
--- rise from the floor, so each is used at most once. At least one frame was sealed. The counts are
--- those of the sealed, the passed and the read frames. Without a spacer, and if no frame may be later
--- than the receiver is, each was read exactly as late as that.
+-- Holds if the frames that were read are those that should be, in their order, each in a tick in
+-- which it may be read. They are the frames that passed, in their order (behind a spacer if the
+-- link's bytes are below 256, as those of each recording are). The frames that passed are, with
+-- their numbers, a subsequence of those that were sealed, and the frames that were read are a
+-- subsequence of them too. On both sides the numbers rise from the floor, so each is used at most
+-- once. At least one frame was sealed. The counts are those of the sealed, the passed and the read
+-- frames. Without a spacer, and if no frame may be later than the receiver is, each was read exactly
+-- as late as that.
 pub record IsClean (kind : LinkKind) (session : Session) (device link received : List Tick)
     (counts : Counts) : Type 0 where
   pub read_in_time : AreReadWithin session.tolerance.least session.tolerance.most
       (expected_in kind session link) (read_in kind session received)
-  pub read_the_same : bytes_read (read_in kind session received)
+  pub read_the_same : (session.tolerance.spaced ≡ true → AreTicks link)
+      → bytes_read (read_in kind session received)
       ≡ bytes_sealed (passed_in_session kind session link)
   pub read_exactly : session.tolerance.spaced ≡ false → session.tolerance.most ≡ 0
       → read_in kind session received

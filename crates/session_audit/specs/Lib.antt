@@ -1,6 +1,8 @@
 pub mod BurstBytes
 pub mod FramesOf
 pub mod ShownFrames
+pub mod SpacedReads
+pub mod Unlisted
 pub mod NotesTold
 pub mod NotingLaws
 pub mod Verdicts

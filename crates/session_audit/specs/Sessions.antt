@@ -1,23 +1,23 @@
 -- A session that has ended, and the verdict on three recordings of it: the line of the device that
 -- sends, the link, and the line of the device that receives.
-use Rattle.std.specs.Prelude.{ℕ, ◌+◌, ◌≤◌, Bool, true, false, List, ◌++◌, length, Option, Some, None}
+use Rattle.std.specs.Prelude.{if◌then◌else◌, ℕ, ◌+◌, ◌≤◌, Bool, true, false, List, ◌++◌, length}
 use Rattle.yasir_ticks.specs.Ticks.{silent}
 use Rattle.yasir_ticks.specs.declared.TheConstants.{T3_5_TICKS}
 use Rattle.yasir_ticks.specs.declared.tick.Tick.{Tick}
 use Rattle.line_rules.specs.Rules.{Rules}
 use Rattle.device_model.specs.Frames.{FrameRead}
+use Rattle.line_spacer.specs.Spacing.{spaced_line}
 use Rattle.link_format.specs.NumberedFrame.{NumberedFrame}
 use Rattle.link_format.specs.Profile.{Profile, delay}
 use Rattle.link_format.specs.Setup.{Setup, setup_of}
 use Rattle.sequence_journal.specs.declared.numbers.TheConstants.{LIMIT}
 use Rattle.link_box.specs.Sealing.{sealed}
 use Rattle.link_box.specs.Checking.{passed, received_line}
-use Rattle.command_ends.specs.Links.{rules_of, label_of, link_profile_of, device_reads}
-use Rattle.command_ends.specs.Links.{gap_of, silence_of}
-use Rattle.session_lists.specs.Lateness.{expected_reads}
+use Rattle.command_ends.specs.Links.{rules_of, label_of, link_profile_of, device_reads, gap_of}
+use Rattle.session_lists.specs.Expected.{expected_by}
 use Rattle.session_lists.specs.Listed.{link_rest}
 use Rattle.session_lists.specs.declared.lateness.Lateness.{Lateness}
-use Rattle.session_lists.specs.declared.lateness.Spacing.{Spacing}
+use Rattle.session_audit.specs.SpacedReads.{most_waiting, spaced_reads}
 use Rattle.session_audit.specs.Verdicts.{verdict_on}
 use Rattle.session_audit.specs.declared.session.Session.{Session}
 use Rattle.session_audit.specs.declared.session.Tolerance.{Tolerance}
@@ -49,13 +49,12 @@ got_setup session = setup_of session.key.now session.dir session.got_floor
 -- ---- the protocol and the profile of a session
 
 -- what belongs to a protocol and a profile: the profile of the link for a setup, the rules of the
--- protocol, what the protocol's stated device reads, how many silent ticks after a frame's last byte
--- it does so, and how many silent ticks a spacer leaves between frames
+-- protocol, what the protocol's stated device reads, and how many silent ticks a spacer leaves
+-- between frames
 pub record LinkKind : Type 0 where
   pub profile : Setup → Profile
   pub rules : Rules
   pub reads : List Tick → List FrameRead
-  pub silence : ℕ
   pub gap : ℕ
 
 -- what belongs to the protocol and the profile of a session
@@ -64,7 +63,6 @@ kind_of session = record {
   profile = link_profile_of session.profile (label_of session.proto) LIMIT;
   rules = rules_of session.proto;
   reads = device_reads session.proto;
-  silence = silence_of session.proto;
   gap = gap_of session.profile;
 }
 
@@ -74,19 +72,24 @@ kind_of session = record {
 abbrev pub exact : Tolerance
 exact = record { least = 0; most = 0; spaced = false }
 
--- the spacer behind the receiver, if there is one
-abbrev pub spacing_of : LinkKind → Bool → Option Spacing
-spacing_of kind true = Some (record { silence = kind.silence; gap = kind.gap })
-spacing_of kind false = None
-
--- when the frames that passed must be read, if the receiver is `late` ticks late
-abbrev pub lateness_of : LinkKind → ℕ → Tolerance → Lateness
-lateness_of kind late tolerance = record {
+-- when the frames that should be read must be, if the receiver is `late` ticks late
+abbrev pub lateness_of : ℕ → Tolerance → Lateness
+lateness_of late tolerance = record {
   late = late;
-  spacing = spacing_of kind tolerance.spaced;
   least = tolerance.least;
   most = tolerance.most;
 }
+
+-- how many silent ticks follow the link if a spacer stands behind the receiver: enough for all that
+-- passes to leave the receiver, and then the spacer, which may have as many frames as may wait still
+-- to send
+abbrev pub spaced_rest : ℕ
+spaced_rest = 21100
+
+-- how many silent ticks follow the link, so that all that passes is read
+abbrev pub rest_behind : Bool → ℕ
+rest_behind true = spaced_rest
+rest_behind false = link_rest
 
 -- ---- what the recordings say
 
@@ -105,34 +108,48 @@ module _ (kind : LinkKind) (session : Session) where
   sealed_in_session device =
       sealed sent_profile kind.rules session.sent_floor (device ++ silent (delay sent_profile + 6))
 
-  -- the frames that pass of the link, with so much silence after it that the last verdict has
-  -- fallen
+  -- the link, with so much silence after it that the last verdict has fallen, and all that passes is
+  -- read
+  abbrev pub link_in_session : List Tick → List Tick
+  link_in_session link = link ++ silent (rest_behind session.tolerance.spaced)
+
+  -- the frames that pass of the link
   abbrev pub passed_in_session : List Tick → List NumberedFrame
-  passed_in_session link = passed got_profile kind.rules session.got_floor (link ++ silent link_rest)
+  passed_in_session link = passed got_profile kind.rules session.got_floor (link_in_session link)
 
   -- the frames that the device that receives reads, with so much silence after its line that its
   -- last burst is closed
   abbrev pub read_in : List Tick → List FrameRead
   read_in received = kind.reads (received ++ silent T3_5_TICKS)
 
-  -- when the frames that passed must be read
+  -- when the frames that should be read must be
   abbrev pub lateness_in : Lateness
-  lateness_in = lateness_of kind (delay got_profile) session.tolerance
+  lateness_in = lateness_of (delay got_profile) session.tolerance
 
-  -- the frames that should be read, given those that pass of the link
-  abbrev pub expected_in : List Tick → List FrameRead
-  expected_in link = expected_reads lateness_in (passed_in_session link)
-
-  -- what the session's receiver sends for the link, up to the last byte that it holds back
+  -- what the session's receiver sends for the link
   abbrev pub line_received : List Tick → List Tick
-  line_received link =
-      received_line got_profile kind.rules session.got_floor (link ++ silent link_rest)
+  line_received link = received_line got_profile kind.rules session.got_floor (link_in_session link)
+
+  -- The frames that should be read: without a spacer those that pass, each later by the receiver's
+  -- delay, and otherwise those that the device reads of the spaced line of what the receiver sends.
+  abbrev pub expected_in : List Tick → List FrameRead
+  expected_in link =
+      expected_by session.tolerance.spaced (delay got_profile) (passed_in_session link)
+      (spaced_reads kind.reads kind.gap (line_received link))
+
+  -- what comes to the device that receives, if nothing is changed behind the receiver and the spacer
+  abbrev pub own_line : List Tick → List Tick
+  own_line link =
+      if session.tolerance.spaced
+      then spaced_line kind.reads kind.gap most_waiting (line_received link)
+      else line_received link
 
   -- the verdict on three recordings of the session: the line of the device that sends, the link,
   -- and the line of the device that receives
   abbrev pub verdict_with : List Tick → List Tick → List Tick → Verdict
   verdict_with device link received =
-      verdict_on lateness_in (sealed_in_session device) (passed_in_session link) (read_in received)
+      verdict_on lateness_in (sealed_in_session device) (passed_in_session link) (expected_in link)
+      (read_in received)
 
 -- the verdict on three recordings of a session, by its protocol and its profile
 abbrev pub verdict_of_session : Session → List Tick → List Tick → List Tick → Verdict

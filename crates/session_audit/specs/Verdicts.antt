@@ -5,7 +5,6 @@ use Rattle.device_model.specs.Frames.{FrameRead}
 use Rattle.link_format.specs.NumberedFrame.{NumberedFrame}
 use Rattle.receiver_laws.specs.Accounted.{forged}
 use Rattle.session_lists.specs.Comparison.{difference_of}
-use Rattle.session_lists.specs.Lateness.{expected_reads}
 use Rattle.session_lists.specs.declared.comparison.Difference.{Difference}
 use Rattle.session_lists.specs.declared.lateness.Lateness.{Lateness}
 use Rattle.session_audit.specs.declared.verdict.Counts.{Counts}
@@ -33,18 +32,19 @@ finding_by false (f ∷ more) difference = Forged f.number f.start
 finding_by false [] (Some difference) = Differs difference
 finding_by false [] None = Clean
 
--- what is found of the frames that were sealed, passed and read, if those that passed must be read
--- as `late` says
-abbrev pub finding_on : Lateness → List NumberedFrame → List NumberedFrame → List FrameRead → Finding
-finding_on late sealed_ones passed_ones reads =
+-- what is found of the frames that were sealed and passed, those that are expected and those that
+-- were read, if the expected ones must be read as `late` says
+abbrev pub finding_on : Lateness → List NumberedFrame → List NumberedFrame → List FrameRead
+    → List FrameRead → Finding
+finding_on late sealed_ones passed_ones expected reads =
     finding_by (are_none (counts_of sealed_ones passed_ones reads))
-    (forged sealed_ones passed_ones)
-    (difference_of late (expected_reads late passed_ones) reads)
+    (forged sealed_ones passed_ones) (difference_of late expected reads)
 
--- the verdict on the frames that were sealed, passed and read, if those that passed must be read as
--- `late` says
-abbrev pub verdict_on : Lateness → List NumberedFrame → List NumberedFrame → List FrameRead → Verdict
-verdict_on late sealed_ones passed_ones reads = record {
+-- the verdict on the frames that were sealed and passed, those that are expected and those that were
+-- read, if the expected ones must be read as `late` says
+abbrev pub verdict_on : Lateness → List NumberedFrame → List NumberedFrame → List FrameRead
+    → List FrameRead → Verdict
+verdict_on late sealed_ones passed_ones expected reads = record {
   counts = counts_of sealed_ones passed_ones reads;
-  finding = finding_on late sealed_ones passed_ones reads;
+  finding = finding_on late sealed_ones passed_ones expected reads;
 }

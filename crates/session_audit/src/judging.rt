@@ -6,7 +6,6 @@ ghost use Rattle.receiver_laws.specs.Accounted.{forged};
 ghost use Rattle.session_lists.specs.Comparison.{difference_of};
 ghost use Rattle.session_lists.specs.FrameBox.{kept_frames};
 ghost use Rattle.session_lists.specs.FrameList.{Holds, ListIsWhole};
-ghost use Rattle.session_lists.specs.Lateness.{expected_reads};
 ghost use Rattle.session_lists.specs.declared.lateness.Lateness.{Lateness};
 ghost use Rattle.session_audit.specs.Judging.{first_head, AreShort};
 ghost use Rattle.session_audit.specs.Verdicts.{counts_of, finding_on, verdict_on};
@@ -48,12 +47,13 @@ fn find(
 ) -> Finding
     requires sealed { ListIsWhole sealed.now }
     requires passed { ListIsWhole passed.now }
-    ensures { (late : Lateness) (sealed_ones passed_ones : List NumberedFrame) (reads : List FrameRead)
+    ensures { (late : Lateness) (sealed_ones passed_ones : List NumberedFrame)
+        (expected reads : List FrameRead)
         → Holds sealed.now (kept_frames sealed_ones) → Holds passed.now (kept_frames passed_ones)
         → counts ≡ counts_of sealed_ones passed_ones reads
-        → difference ≡ difference_of late (expected_reads late passed_ones) reads
+        → difference ≡ difference_of late expected reads
         → AreNumberedFrom floor sealed_ones
-        → result ≡ finding_on late sealed_ones passed_ones reads }
+        → result ≡ finding_on late sealed_ones passed_ones expected reads }
 {
     if counts.sealed == 0 && counts.passed == 0 && counts.read == 0 {
         return Finding::Empty;
@@ -83,12 +83,12 @@ pub(crate) fn judge(
     requires sealed { ListIsWhole sealed.now }
     requires passed { ListIsWhole passed.now }
     requires short { AreShort sealed.now passed.now read }
-    ensures { (late : Lateness) (sealed_ones passed_ones : List NumberedFrame) (reads : List FrameRead)
+    ensures { (late : Lateness) (sealed_ones passed_ones : List NumberedFrame)
+        (expected reads : List FrameRead)
         → Holds sealed.now (kept_frames sealed_ones) → Holds passed.now (kept_frames passed_ones)
-        → read ≡ length reads
-        → difference ≡ difference_of late (expected_reads late passed_ones) reads
+        → read ≡ length reads → difference ≡ difference_of late expected reads
         → AreNumberedFrom floor sealed_ones
-        → result ≡ verdict_on late sealed_ones passed_ones reads }
+        → result ≡ verdict_on late sealed_ones passed_ones expected reads }
 {
     let counts = Counts {
         sealed: sealed.len() as u32,

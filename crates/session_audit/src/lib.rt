@@ -48,7 +48,9 @@ mod seal_noting;
 mod sealed_frames;
 mod session;
 mod shown_frames;
+mod spaced_reads;
 mod steady_disk;
+mod unlisted;
 mod untagged;
 mod verdict;
 
@@ -66,5 +68,6 @@ pub use sealed_frames::SealedFrames;
 pub use session::{Session, Tolerance};
 pub use session_lists::{Difference, NoMemory, ReadFrame};
 pub use shown_frames::ShownFrames;
+pub use spaced_reads::SpacedReads;
 pub use steady_disk::SteadyDisk;
 pub use verdict::{Counts, Finding, Verdict};

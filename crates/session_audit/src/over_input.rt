@@ -10,34 +10,38 @@ ghost use Rattle.session_audit.specs.Through.{verdict_through};
 
 use crate::judged_lists::{judge_lists, lists_for};
 use crate::link_boxes::audit_through;
+use crate::unlisted::end_without_memory;
 use crate::{Session, Verdict};
 use command_ends::with_link;
 use device_model::Device;
-use session_lists::{FrameBox, list_session};
+use session_lists::{FrameBox, Guard, list_session};
 use std::alloc::Global;
 use tick_drive::End;
 use yasir_io::Source;
 
-// Returns the verdict by a transmitter `S`, a receiver `C`, and a device `V`.
-fn audit_input_by<S: FrameBox, C: FrameBox, V: Device + Drop, I: Source>(
+// Returns the verdict by a transmitter `S`, a receiver `C`, a device `V` and a guard `G`.
+fn audit_input_by<S: FrameBox, C: FrameBox, V: Device + Drop, G: Guard, I: Source>(
     alloc: Global,
     session: &Session<'_>,
     input: &mut I,
 ) -> Result<Verdict, End>
     requires sealer { S.widths_fit }
     requires checker { C.widths_fit }
+    requires guard { G.gap_fits }
     requires session { IsSession session.now }
     requires in_turn { (setup : Setup) (line : List Tick)
         → AreNumberedFrom setup.floor ((S.numbering setup).frames line) }
     requires in_time { (setup : Setup) (line : List Tick)
         → All (λ f. f.start ≤ length line) ((C.numbering setup).frames line) }
     ensures audits { AuditsInput
-        (verdict_through S.FrameBox C.FrameBox V.Device session.now)
+        (verdict_through S.FrameBox C.FrameBox V.Device G.Guard session.now)
         (I.left input.old) (I.left input.new) result }
     ensures read { IsReadCause (I.faults input.old) (I.faults input.new)
         (is_read_answer result) }
 {
-    let mut lists = lists_for::<S, C, V>(alloc, session);
+    let Ok(mut lists) = lists_for::<S, C, V, G>(alloc, session) else {
+        return Err(end_without_memory(input));
+    };
     match list_session(&mut lists, input) {
         End::Whole => {}
         end => return Err(end),

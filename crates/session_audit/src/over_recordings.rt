@@ -11,7 +11,7 @@ use crate::link_boxes::audit_through;
 use crate::{Session, Verdict};
 use command_ends::with_link;
 use device_model::Device;
-use session_lists::{FrameBox, NoMemory, list_lines};
+use session_lists::{FrameBox, Guard, NoMemory, list_lines};
 use std::alloc::Global;
 use yasir_ticks::Tick;
 
@@ -23,14 +23,15 @@ struct Lines<'a> {
     received: &'a [Tick],
 }
 
-// Returns the verdict by a transmitter `S`, a receiver `C`, and a device `V`.
-fn audit_by<S: FrameBox, C: FrameBox, V: Device + Drop>(
+// Returns the verdict by a transmitter `S`, a receiver `C`, a device `V` and a guard `G`.
+fn audit_by<S: FrameBox, C: FrameBox, V: Device + Drop, G: Guard>(
     alloc: Global,
     session: &Session<'_>,
     lines: Lines<'_>,
 ) -> Result<Verdict, NoMemory>
     requires sealer { S.widths_fit }
     requires checker { C.widths_fit }
+    requires guard { G.gap_fits }
     requires session { IsSession session.now }
     requires recordings { AreRecordings lines.device.now lines.link.now lines.received.now }
     requires in_turn { (setup : Setup) (line : List Tick)
@@ -38,10 +39,12 @@ fn audit_by<S: FrameBox, C: FrameBox, V: Device + Drop>(
     requires in_time { (setup : Setup) (line : List Tick)
         → All (λ f. f.start ≤ length line) ((C.numbering setup).frames line) }
     ensures { IfOk result (λ verdict. verdict
-        ≡ verdict_through S.FrameBox C.FrameBox V.Device session.now lines.entry.device.now
+        ≡ verdict_through S.FrameBox C.FrameBox V.Device G.Guard session.now lines.entry.device.now
         lines.entry.link.now lines.entry.received.now) }
 {
-    let mut lists = lists_for::<S, C, V>(alloc, session);
+    let Ok(mut lists) = lists_for::<S, C, V, G>(alloc, session) else {
+        return Err(NoMemory);
+    };
     match list_lines(&mut lists, lines.device, lines.link, lines.received) {
         Ok(()) => Ok(judge_lists(session, &lists)),
         Err(NoMemory) => Err(NoMemory),

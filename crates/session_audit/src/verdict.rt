@@ -21,11 +21,11 @@ pub enum Finding {
     /// frame, and `start` is the tick of the link at which it starts, counted from 0.
     Forged { number: u64, start: u64 },
     /// No frame that passed is forged, and the frames read from the device's line aren't those that
-    /// passed, or one was read in a tick in which it may not be.
+    /// should be, or one was read in a tick in which it may not be.
     Differs(Difference),
     /// No frame that passed is forged, and the frames read from the device's line are exactly those
-    /// that passed, in their order, each in a tick in which it may be read. At least one frame was
-    /// sealed.
+    /// that should be, in their order, each in a tick in which it may be read: those that passed or,
+    /// behind a spacer, those of them that it hasn't lost. At least one frame was sealed.
     Clean,
 }
 

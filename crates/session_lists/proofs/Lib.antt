@@ -8,6 +8,7 @@ pub mod HeardRuns
 pub mod Runs
 pub mod Listed
 pub mod Comparing
+pub mod Due
 pub mod TakenLines
 pub mod InPlace
 pub mod Parted

@@ -6,7 +6,7 @@ use Rattle.session_lists.specs.ReplayLists.{KeepsFrames, ChecksLists, HasListed,
 use Rattle.session_lists.specs.ReplayLists.{listing, GoesOnBy}
 use Rattle.session_lists.specs.declared.frame_box.FrameBox.{Ghosts as FrameBox}
 use Rattle.session_lists.specs.declared.replay_lists.ReplayLists.{ReplayLists}
-use Rattle.std.proofs.Common.{◌≡◌, ◌<◌, true, List, [], ◌∷◌, ◌++◌, length, Ok, Err}
+use Rattle.std.proofs.Common.{◌≡◌, ◌∙◌, ◌<◌, true, List, [], ◌∷◌, ◌++◌, length, Ok, Err}
 use Rattle.std.proofs.Common.{refl, ap, sym}
 use Rattle.tick_drive.specs.{Consumers.Gives, declared.consumer.Stop.TheVariants.NoMemory}
 use Rattle.yasir_ticks.specs.Ticks.{Item, Item.mark}
@@ -49,6 +49,15 @@ module _ {S C V : Type 0} (s : FrameBox S) (c : FrameBox C) (v : Device V)
       seals = step listed.seals;
       checks = checks-same setup link listed.checks;
     }
+
+-- If only what belongs to the transmitter has changed, and then only that again, only that has.
+module _ {S C V : Type 0} (first old new : ReplayLists S C V) where
+  pub others-on : old ≡ record first { sealer = old.sealer; sealed = old.sealed }
+      → new ≡ record old { sealer = new.sealer; sealed = new.sealed }
+      → new ≡ record first { sealer = new.sealer; sealed = new.sealed }
+  others-on before then =
+      then ∙ ap (λ (l : ReplayLists S C V). record l { sealer = new.sealer; sealed = new.sealed })
+      before
 
 -- ---- the mark
 

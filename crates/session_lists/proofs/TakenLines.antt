@@ -1,14 +1,20 @@
 -- Ticks that are taken one after the other, and what is kept of them.
 use Rattle.device_model.specs.{Frames.FrameRead, declared.device.Device.Ghosts as Device}
-use Rattle.link_format.specs.{NumberedFrame.NumberedFrame, Setup.Setup}
+use Rattle.link_format.specs.{Setup.Setup}
 use Rattle.session_lists.proofs.HeardRuns.{silent_on}
 use Rattle.session_lists.specs.Comparison.{Compares, Found}
+use Rattle.session_lists.specs.Expected.{Expects}
 use Rattle.session_lists.specs.{FrameBox.kept_frames, FrameList.Holds, FrameList.list_len}
-use Rattle.session_lists.specs.{Lines.ListsGoOn, Lines.TakesOn, Lines.HearsOn, ReplayLists.KeepsFrames}
-use Rattle.session_lists.specs.{ReplayLists.StepsInto, declared.comparison.Comparison.Comparison}
-use Rattle.session_lists.specs.declared.frame_box.{FrameBox.Ghosts as FrameBox, Numbered.Numbered}
-use Rattle.{session_lists.specs.declared.frame_list.FrameList.FrameList, std.proofs.Common.◌≡◌}
+use Rattle.session_lists.specs.Guarding.{Guards}
+use Rattle.session_lists.specs.Lines.{ListsGoOn, TakesOn, HearsOn, KeepsLine, BoxSetup}
+use Rattle.session_lists.specs.ReplayLists.{KeepsFrames, StepsInto}
+use Rattle.session_lists.specs.declared.comparison.Comparison.{Comparison}
+use Rattle.session_lists.specs.declared.expected.Expected.{Expected}
+use Rattle.session_lists.specs.declared.frame_box.FrameBox.{Ghosts as FrameBox}
+use Rattle.session_lists.specs.declared.guard.Guard.{Ghosts as Guard}
+use Rattle.session_lists.specs.declared.kept.Kept.{Kept}
 use Rattle.session_lists.specs.declared.lateness.Lateness.{Lateness}
+use Rattle.std.proofs.Common.{◌≡◌, Bool}
 use Rattle.std.proofs.Common.{ℕ, ◌+◌, ◌≤◌, ◌<◌, List, [], ◌∷◌, ◌++◌, length, take, get_or}
 use Rattle.std.proofs.Common.{sym, subst, arith, append-nil, append_assoc, length-append}
 use Rattle.{std.proofs.lemmas.List.take_more, yasir_ticks.specs.Ticks.silent}
@@ -55,56 +61,66 @@ module _ {O S L : Type 0} (taken : S → ℕ) (size : L → ℕ)
 
 -- ---- a step of a box, and some ticks at a device
 
-pub box-tick : {B : Type 0} (box : FrameBox B) (old new : B) (before after : FrameList Numbered)
-    (t tick : Tick) → box.taken new ≡ box.taken old + 1 → list_len after ≤ list_len before + 1
-    → ((setup : Setup) (line : List Tick) → KeepsFrames box old before setup line
-    → StepsInto box new after setup line t tick)
-    → TakesOn box old new before after (t ∷ [])
-box-tick box old new before after t tick taken few ok = record {
+pub box-tick : {B G : Type 0} (box : FrameBox B) (guard : Guard G) (old new : B)
+    (before after : Kept G) (t tick : Tick) → box.taken new ≡ box.taken old + 1
+    → list_len after.frames ≤ list_len before.frames + 1
+    → ((setup : Setup) (line : List Tick) → KeepsFrames box old before.frames setup line
+    → StepsInto box new after.frames setup line t tick)
+    → ((spaced : Bool) (line : List Tick) → Guards guard spaced before.guard line
+    → Guards guard spaced after.guard (line ++ tick ∷ []))
+    → TakesOn box guard old new before after (t ∷ [])
+box-tick box guard old new before after t tick taken few ok hears = record {
   counted = taken;
   few = few;
-  kept = λ setup line keep. (ok setup line keep).keeps;
+  kept = λ origin line keep.
+      let step = ok origin.setup line keep.frames in record {
+        frames = step.keeps;
+        heard = subst (Guards guard origin.spaced after.guard) (sym step.answers)
+            (hears origin.spaced ((box.numbering origin.setup).other_line line) keep.heard);
+      };
 }
 
-pub hears-lent : {V : Type 0} (device : Device V) (late : Lateness) (passed : FrameList Numbered)
-    (old new : V) (before after : Comparison) (more : List Tick) (frames : List FrameRead)
+pub hears-lent : {V : Type 0} (device : Device V) (expected : Expected) (old new : V)
+    (before after : Comparison) (more : List Tick) (frames : List FrameRead)
     → device.taken new ≡ device.taken old + length more
     → after.read ≤ before.read + length more
     → ((line : List Tick) → device.stands old line → device.stands new (line ++ more))
     → ((line : List Tick) → device.stands old line
     → device.reads (line ++ more) ≡ device.reads line ++ frames)
-    → ((passed_ones : List NumberedFrame) (reads : List FrameRead)
-    → Holds passed (kept_frames passed_ones)
-    → Found late before passed_ones reads → Found late after passed_ones (reads ++ frames))
-    → HearsOn device late passed old new before after more
-hears-lent device late passed old new before after more frames counts few stands answer found =
+    → ((due reads : List FrameRead) → Expects expected due
+    → Found expected.late before due reads → Found expected.late after due (reads ++ frames))
+    → HearsOn device expected old new before after more
+hears-lent device expected old new before after more frames counts few stands answer found =
     record {
       counted = counts;
       few = few;
-      kept = λ passed_ones line compares holds.
-          let heard = compares holds in record {
+      kept = λ due line compares expects.
+          let heard = compares expects in record {
             hears = stands line heard.hears;
-            found = subst (Found late after passed_ones)
-                (sym (answer line heard.hears))
-                (found passed_ones (device.reads line) holds heard.found);
+            found = subst (Found expected.late after due) (sym (answer line heard.hears))
+                (found due (device.reads line) expects heard.found);
           };
     }
 
 -- ---- before the first tick
 
-pub keeps-none : {B : Type 0} (box : FrameBox B) (value : B) (list : FrameList Numbered)
-    (setup : Setup) → box.stands value setup [] → (box.numbering setup).frames [] ≡ []
-    → Holds list [] → KeepsFrames box value list setup []
-keeps-none box value list setup stands nothing holds = record {
-  steps = stands;
-  holds = subst (λ l. Holds list (kept_frames l)) (sym nothing) holds;
+pub keeps-none : {B G : Type 0} (box : FrameBox B) (guard : Guard G) (value : B) (kept : Kept G)
+    (origin : BoxSetup) → box.stands value origin.setup []
+    → (box.numbering origin.setup).frames [] ≡ [] → (box.numbering origin.setup).other_line [] ≡ []
+    → Holds kept.frames [] → Guards guard origin.spaced kept.guard []
+    → KeepsLine box guard value kept origin []
+keeps-none box guard value kept origin stands nothing no_tick holds heard = record {
+  frames = record {
+    steps = stands;
+    holds = subst (λ l. Holds kept.frames (kept_frames l)) (sym nothing) holds;
+  };
+  heard = subst (Guards guard origin.spaced kept.guard) (sym no_tick) heard;
 }
 
 pub compares-none : {V : Type 0} (device : Device V) (value : V) (comparison : Comparison)
-    (late : Lateness) (passed_ones : List NumberedFrame) → device.stands value []
-    → device.reads [] ≡ [] → Found late comparison passed_ones []
-    → Compares device value comparison late passed_ones []
-compares-none device value comparison late passed_ones stands nothing found = record {
+    (late : Lateness) (due : List FrameRead) → device.stands value [] → device.reads [] ≡ []
+    → Found late comparison due [] → Compares device value comparison late due []
+compares-none device value comparison late due stands nothing found = record {
   hears = stands;
-  found = subst (Found late comparison passed_ones) (sym nothing) found;
+  found = subst (Found late comparison due) (sym nothing) found;
 }

@@ -1,19 +1,12 @@
 -- The frames that a device reads, compared with those that it should read.
-use Rattle.std.specs.Prelude.{◌≡◌, ℕ, suc, ◌+◌, nat_le, ◌&&◌, Bool, false, List, [], ◌∷◌, length}
+use Rattle.std.specs.Prelude.{◌≡◌, ℕ, suc, ◌+◌, nat_le, ◌&&◌, Bool, List, [], ◌∷◌, length}
 use Rattle.std.specs.Prelude.{bytes_eq, Option, Some, None, IfSome, option_map, slice_get}
-use Rattle.std.specs.Prelude.{◌<◌, ◌^◌, All, if◌then◌else◌, take}
+use Rattle.std.specs.Prelude.{if◌then◌else◌}
 use Rattle.yasir_ticks.specs.declared.tick.Tick.{Tick}
 use Rattle.device_model.specs.Frames.{FrameRead}
 use Rattle.device_model.specs.declared.device.Device.{Ghosts as Device}
-use Rattle.link_format.specs.NumberedFrame.{NumberedFrame}
-use Rattle.session_lists.specs.FrameBox.{kept_frames}
-use Rattle.session_lists.specs.FrameList.{Holds}
-use Rattle.session_lists.specs.Lateness.{expected_reads, free_after}
 use Rattle.session_lists.specs.declared.comparison.Comparison.{Comparison}
 use Rattle.session_lists.specs.declared.comparison.Difference.{Difference}
-use Rattle.session_lists.specs.declared.comparison.Unexpected.{Unexpected}
-use Rattle.session_lists.specs.declared.frame_box.Numbered.{Numbered}
-use Rattle.session_lists.specs.declared.frame_list.FrameList.{FrameList}
 use Rattle.session_lists.specs.declared.lateness.Lateness.{Lateness}
 
 -- whether a frame that was read has the bytes of the one that should be, and starts from `least` to
@@ -57,55 +50,17 @@ first_unexpected late (f ∷ x) [] = None
 first_unexpected late (f ∷ x) (g ∷ y) =
     if is_same_read late f g then option_map suc (first_unexpected late x y) else Some 0
 
--- whether this frame is the next one that is expected
-abbrev pub is_next : Lateness → List FrameRead → FrameRead → Bool
-is_next late [] g = false
-is_next late (f ∷ x) g = is_same_read late f g
-
--- from which tick on the next frame may start, if a frame is the expected one
-abbrev pub free_if : Bool → ℕ → Option ℕ
-free_if same free = if same then Some free else None
-
--- how many frames that were read are the expected ones, of `read` frames, up to the first one that
--- isn't
-abbrev pub met_of : Option Unexpected → ℕ → ℕ
-met_of None read = read
-met_of (Some u) read = u.place
-
 -- What a comparison holds of the frames that were read: how many there are, and the first one that
--- isn't expected, with its place. Nothing else is kept of them. Of the frames that passed it holds
--- from which tick on the next one may start that should be read.
-pub record Found (late : Lateness) (value : Comparison) (passed_ones : List NumberedFrame)
-    (reads : List FrameRead) : Type 0 where
-  pub count : value.read ≡ length reads
-  pub place : option_map (λ u. u.place) value.unexpected
-      ≡ first_unexpected late (expected_reads late passed_ones) reads
-  pub frame : IfSome value.unexpected (λ u. slice_get reads u.place ≡ Some u.frame)
-  pub free : value.free
-      ≡ free_after late 0 (take (met_of value.unexpected value.read) passed_ones)
-
--- Holds if the list holds frames each of which should be read from a tick below 2 ^ 64 on, and the
--- frame at `place` may start from tick `free` on.
-pub record IsReadInTime (late : Lateness) (free place : ℕ) (list : FrameList Numbered) : Type 0
-  where
-    pub frames : List NumberedFrame
-    pub holds : Holds list (kept_frames frames)
-    pub free_is : free ≡ free_after late 0 (take place frames)
-    pub in_time : All (λ f. f.start < 2 ^ 64) (expected_reads late frames)
-
--- Holds if what was read was compared with what should be read of the frames in the list, each of
--- them from a tick below 2 ^ 64 on.
-pub record IsComparedInTime (late : Lateness) (value : Comparison) (list : FrameList Numbered) :
+-- isn't expected, with its place. Nothing else is kept of them.
+pub record Found (late : Lateness) (value : Comparison) (expected reads : List FrameRead) :
     Type 0 where
-  pub frames : List NumberedFrame
-  pub reads : List FrameRead
-  pub holds : Holds list (kept_frames frames)
-  pub found : Found late value frames reads
-  pub in_time : All (λ f. f.start < 2 ^ 64) (expected_reads late frames)
+  pub count : value.read ≡ length reads
+  pub place : option_map (λ u. u.place) value.unexpected ≡ first_unexpected late expected reads
+  pub frame : IfSome value.unexpected (λ u. slice_get reads u.place ≡ Some u.frame)
 
--- Holds if the device has heard this line, and what it has read was compared with what should be
--- read of the frames that passed.
+-- Holds if the device has heard this line, and what it has read was compared with the frames that
+-- should be read.
 pub record Compares {V : Type 0} (device : Device V) (value : V) (comparison : Comparison)
-    (late : Lateness) (passed_ones : List NumberedFrame) (line : List Tick) : Type 0 where
+    (late : Lateness) (expected : List FrameRead) (line : List Tick) : Type 0 where
   pub hears : device.stands value line
-  pub found : Found late comparison passed_ones (device.reads line)
+  pub found : Found late comparison expected (device.reads line)

@@ -8,6 +8,8 @@ pub mod Recordings
 pub mod ReplayLists
 pub mod Lateness
 pub mod Comparison
+pub mod Expected
+pub mod Guarding
 pub mod Lines
 pub mod Places
 pub mod Listed

@@ -12,31 +12,33 @@ use Rattle.session_lists.specs.declared.tick_lists.Place.TheVariants.{First}
 use Rattle.session_lists.specs.SessionLists.{HasSession, IsOpenList, SetupsOfLists, all_rests, boxes_taken}
 use Rattle.session_lists.specs.SessionLists.{session_taken}
 use Rattle.session_lists.specs.declared.frame_box.FrameBox.{Ghosts as FrameBox}
+use Rattle.session_lists.specs.declared.guard.Guard.{Ghosts as Guard}
 use Rattle.session_lists.specs.declared.session_lists.SessionLists.{SessionLists}
 
-module _ {S C V : Type 0} (s : FrameBox S) (c : FrameBox C) (v : Device V) where
+module _ {S C V G : Type 0} (s : FrameBox S) (c : FrameBox C) (v : Device V)
+    (g : Guard G) where
   -- Lists that have taken no item, with some setup.
-  pub record MayListSession (lists : SessionLists S C V) : Type 0 where
-    pub none : boxes_taken s c v lists ≡ 0
-    pub able : IsOpenList s c v lists
+  pub record MayListSession (lists : SessionLists S C V G) : Type 0 where
+    pub none : boxes_taken s c v g lists ≡ 0
+    pub able : IsOpenList s c v g lists
     pub first : lists.place ≡ First
-    pub short : all_rests lists.timing ≤ 1000
+    pub short : all_rests lists.timing ≤ 100000
     pub nothing : v.reads [] ≡ []
     pub setups : SetupsOfLists
-    pub has : HasSession s c v lists setups [] [] []
+    pub has : HasSession s c v g lists setups [] [] []
 
   -- The lists are those of these recordings, each followed by its silence.
-  pub record ListsLines (old new : SessionLists S C V) (device link received : List Tick) :
+  pub record ListsLines (old new : SessionLists S C V G) (device link received : List Tick) :
       Type 0 where
-    pub has : (setups : SetupsOfLists) → HasSession s c v old setups [] [] []
-        → HasSession s c v new setups (device ++ silent setups.timing.sent_rest)
+    pub has : (setups : SetupsOfLists) → HasSession s c v g old setups [] [] []
+        → HasSession s c v g new setups (device ++ silent setups.timing.sent_rest)
         (link ++ silent setups.timing.link_rest) (received ++ silent setups.timing.received_rest)
-    pub able : IsOpenList s c v new
-    pub few : session_taken s c v new < 2 ^ 32
+    pub able : IsOpenList s c v g new
+    pub few : session_taken s c v g new < 2 ^ 32
 
   -- Holds if the input is a whole text with two marks, and the lists are those of the three
   -- recordings that the marks separate.
-  pub record ListsThree (old new : SessionLists S C V) (before now : Option (List ℕ)) :
+  pub record ListsThree (old new : SessionLists S C V G) (before now : Option (List ℕ)) :
       Type 0 where
     pub items : List Item
     pub takes : IsWhole 2 0 before now items
@@ -51,7 +53,7 @@ module _ {S C V : Type 0} (s : FrameBox S) (c : FrameBox C) (v : Device V) where
     pub memory : StopsForMemory end
 
   -- What each end of the listing says of the input and the lists.
-  abbrev pub ListsSession : SessionLists S C V → SessionLists S C V → Option (List ℕ)
+  abbrev pub ListsSession : SessionLists S C V G → SessionLists S C V G → Option (List ℕ)
       → Option (List ℕ) → End → Type 0
   ListsSession old new before now Whole = ListsThree old new before now
   ListsSession old new before now end = EndsThree before now end

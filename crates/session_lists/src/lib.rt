@@ -14,11 +14,12 @@
 //! memory as lists.
 //!
 //! Of two recordings in one input, the frames that the device reads are kept too. Of three, which
-//! come in one input or each as a list of ticks, they are compared with those that have passed.
+//! come in one input or each as a list of ticks, they are compared with those that should be read:
+//! the frames that have passed or, behind a spacer, those that leave it (`Guard`).
 //!
 //! The frames of three recordings of a session, which two marks separate in the input:
 //!
-//!     let mut lists = SessionLists::<S, C, RtuDevice>::new(alloc, &key, dir, floors, timing);
+//!     let mut lists = SessionLists::<S, C, RtuDevice, G>::new(alloc, &key, dir, floors, timing)?;
 //!     match list_session(&mut lists, &mut input) {
 //!         End::Whole => judge(lists.sealed(), lists.passed(), lists.difference()),
 //!         end => refuse(end),
@@ -26,10 +27,13 @@
 #![tactic(auto)]
 
 mod comparison;
+mod expected;
 mod frame_box;
 mod frame_list;
 mod fronts;
+mod guard;
 mod hearing;
+mod kept;
 mod lateness;
 mod lines;
 mod listing;
@@ -47,7 +51,8 @@ pub use comparison::Difference;
 pub use frame_box::{FrameBox, FrameStep, Numbered};
 pub use frame_ending::RunBytes;
 pub use frame_list::FrameList;
-pub use lateness::{Lateness, Spacing};
+pub use guard::Guard;
+pub use lateness::Lateness;
 pub use listing::list_ticks;
 pub use places::is_at_its_number;
 pub use read_frame::ReadFrame;

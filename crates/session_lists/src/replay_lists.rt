@@ -15,7 +15,6 @@ ghost use Rattle.session_lists.specs.declared.frame_box.Numbered.{Numbered};
 use crate::frame_box::{FrameBox, Numbered};
 use crate::frame_list::FrameList;
 use crate::hearing::{hear_answered, keep_lent};
-use crate::lines::take_silence;
 use device_model::Device;
 use frame_ending::RunBytes;
 use link_format::Dir;
@@ -328,7 +327,13 @@ impl<S: FrameBox, C: FrameBox, V: Device + Drop> ReplayLists<S, C, V> {
             → HasListed S.FrameBox C.FrameBox V.Device self.new setup (device ++ silent ticks)
             link) }
     {
-        take_silence(&mut self.sealer, &mut self.sealed, ticks)
+        for _ in 0..ticks {
+            match self.seal(Tick::Silent) {
+                Ok(()) => {}
+                Err(NoMemory) => return Err(NoMemory),
+            }
+        }
+        Ok(())
     }
 }
 

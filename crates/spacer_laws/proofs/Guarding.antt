@@ -4,13 +4,17 @@ use Rattle.frame_ending.specs.{Laid.laid, Walk.emitted_by}
 use Rattle.device_model.{proofs.ReadLaws.frames_ended, specs.Frames.FrameRead}
 use Rattle.line_rules.specs.{Rules.Rules, RulesLaws.IsLawful, RulesLaws.IsFramed}
 use Rattle.line_spacer.{proofs.Sending.on_line, specs.Arrivals.Arrival, specs.Arrivals.arrivals}
-use Rattle.line_spacer.specs.Spacing.{Spaced, count_from, take_in, accepted_of, spaced_line}
+use Rattle.line_spacer.specs.Spacing.{Spaced, count_from, take_in, accepted_of, lost_of}
+use Rattle.line_spacer.specs.Spacing.{spaced_line}
 use Rattle.link_format.specs.NumberedFrame.{NumberedFrame, numbers_of}
 use Rattle.link_format.specs.Profile.{Profile, delay}
 use Rattle.link_box.proofs.Apart.{emissions-spread}
 use Rattle.link_box.specs.Checking.{checker, at_floor, passed, received_line}
-use Rattle.receiver_laws.proofs.{Headline.passed-sealed, OverUptimes.accounted-for}
+use Rattle.link_box.specs.Verdicts.{CheckState, checked, Verdict.refused}
+use Rattle.link_box.specs.declared.check_note.RefusedWhy.{RefusedWhy}
+use Rattle.receiver_laws.proofs.{Headline.passed-sealed, OverUptimes.accounted-for, Readings.wrong}
 use Rattle.receiver_laws.proofs.Rising.{have_passed}
+use Rattle.receiver_laws.proofs.{Standing.bytes_in-byte_ticks}
 use Rattle.receiver_laws.proofs.Settled.{laid-longer, last_end, EndBy-last, EndBy-later}
 use Rattle.receiver_laws.proofs.Subsequences.{nothing-is, front-is, map-is, chain-is}
 use Rattle.receiver_laws.specs.Accounted.{IsSubsequence}
@@ -23,11 +27,13 @@ use Rattle.spacer_laws.proofs.Within.{apart-spread}
 use Rattle.spacer_laws.specs.Guarding.{Placed, frames_placed, placed_ticks, StandApart, CarriesOnly}
 use Rattle.spacer_laws.specs.{Guarding.GivesOnlySealed, SpacesOut.AreApart, SpacesOut.ReadsFrames}
 use Rattle.std.proofs.Common.{◌≡◌, ◌∙◌, ℕ, ◌+◌, ◌<◌, ◌≤◌, List, [], ◌∷◌, ◌++◌, length, map, fold}
-use Rattle.std.proofs.Common.{refl, sym, ap, subst, arith, ⊎_elim, Bool, append_assoc}
+use Rattle.std.proofs.Common.{refl, sym, ap, subst, arith, ⊎_elim, Bool, false, append_assoc}
+use Rattle.std.proofs.Common.{length-append}
 use Rattle.std.proofs.lemmas.{Bool.cases_lt, List.append-nil, List.map-append}
 use Rattle.yasir_ticks.proofs.BurstsOfLaws.{bursts_from-are}
 use Rattle.yasir_ticks.specs.Bursts.{Burst, bursts, end_of}
-use Rattle.yasir_ticks.specs.{BurstsOf.AreBursts, Ticks.silent, declared.tick.Tick.Tick}
+use Rattle.yasir_ticks.specs.{BurstsOf.AreBursts, BurstsOf.IsContiguous, Ticks.bytes_in}
+use Rattle.yasir_ticks.specs.{Ticks.silent, declared.tick.Tick.Tick}
 
 -- ---- the accepted frames are some of those that are read, in their order
 
@@ -67,6 +73,43 @@ module _ (gap cap : ℕ) where
         are = others.are;
       } in
       subst P (sym (taken-many gap cap s a many)) is)
+      (cases_lt (count_from (a.step + 1) s.accepted) cap)
+
+  lost-grows : (s : Spaced) (more : List Arrival)
+      → length s.lost ≤ length (fold (take_in gap cap) s more).lost
+  lost-grows s [] = omega arith
+  lost-grows s (a ∷ more) =
+      let P : Spaced → Type 0 = λ x. length s.lost ≤ length (fold (take_in gap cap) x more).lost in
+      let long = length-append s.lost (a ∷ []) in
+      ⊎_elim
+      (λ few. subst P (sym (taken-few gap cap s a few))
+      (lost-grows (with_frame gap cap s a) more))
+      (λ many. let grows = lost-grows (without_frame gap cap s a) more in
+      subst P (sym (taken-many gap cap s a many)) (omega arith))
+      (cases_lt (count_from (a.step + 1) s.accepted) cap)
+
+  -- If none is lost, all are accepted.
+  all-kept : (s : Spaced) (more : List Arrival) → (fold (take_in gap cap) s more).lost ≡ s.lost
+      → bodies (fold (take_in gap cap) s more).accepted ≡ bodies s.accepted ++ sent_bodies more
+  all-kept s [] same = sym (append-nil (bodies s.accepted))
+  all-kept s (a ∷ more) same =
+      let new : List Tick = on_line a.frame.frame in
+      let P : Spaced → Type 0 = λ x. (fold (take_in gap cap) x more).lost ≡ s.lost
+      → bodies (fold (take_in gap cap) x more).accepted
+      ≡ bodies s.accepted ++ sent_bodies (a ∷ more) in
+      ⊎_elim
+      (λ few.
+      let is : P (with_frame gap cap s a) = λ kept.
+      all-kept (with_frame gap cap s a) more kept
+      ∙ (ap (λ x. x ++ sent_bodies more) (map-append (λ d. d.body) s.accepted _)
+      ∙ append_assoc (bodies s.accepted) (new ∷ []) (sent_bodies more)) in
+      subst P (sym (taken-few gap cap s a few)) is same)
+      (λ many.
+      let grows = lost-grows (without_frame gap cap s a) more in
+      let long = length-append s.lost (a ∷ []) in
+      let is : P (without_frame gap cap s a) = λ kept.
+      let equal = ap (λ x. length x) kept in absurd (omega (arith, grows, long, equal)) in
+      subst P (sym (taken-many gap cap s a many)) is same)
       (cases_lt (count_from (a.step + 1) s.accepted) cap)
 
 -- The list `x` as the images under `f` of a subsequence of `y`.
@@ -178,12 +221,14 @@ module _ (rules : Rules) (framed : IsFramed rules) (gap : ℕ) (wide : 4 ≤ gap
 -- ---- behind the receiver
 
 -- What a spacer hears behind the receiver is frames that have passed: those of the receiver's
--- emissions that are whole, each `ends` ticks after its end.
+-- emissions that are whole, each `ends` ticks after its end. What leaves of a refused burst isn't.
 pub record HearsEmissions (rules : Rules) (heard : List Tick → List FrameRead) (ends : ℕ)
     (profile : Profile) : Type 0 where
   pub sound : ReadsFrames rules heard
   pub passes : (floor : ℕ) (link : List Tick) → ReadsWhatPassed rules heard ends profile floor link
   pub whole : Burst → Bool
+  pub refuses : (s : CheckState) (d : Burst) (why : RefusedWhy) → IsContiguous 4 d.body
+      → checked profile rules s d ≡ refused why → whole (wrong profile rules d) ≡ false
   pub emissions : (floor : ℕ) (link : List Tick) (m : ℕ)
       → heard (laid m (emitted_by (checker profile rules) (at_floor floor) (bursts link)))
       ≡ frames_ended ends whole m (emitted_by (checker profile rules) (at_floor floor) (bursts link))
@@ -244,6 +289,59 @@ module _ (rules : Rules) (lawful : IsLawful rules) (framed : IsFramed rules)
       (rise-fewer floor floor (numbers_of image.of) (numbers_of all)
       (map-is (λ f. f.number) image.among) (omega arith)
       (have_passed profile rules lawful floor link).rise)
+
+  bytes-are : (ds : List Burst) (frames : List NumberedFrame)
+      → bodies ds ≡ map (λ f. on_line f.frame) frames
+      → map (λ d. bytes_in d.body) ds ≡ bytes_sealed frames
+  bytes-are [] [] same = refl
+  bytes-are [] (f ∷ frames) same = cc
+  bytes-are (d ∷ ds) [] same = cc
+  bytes-are (d ∷ ds) (f ∷ frames) same =
+      let first : d.body ≡ on_line f.frame = cc in
+      let tail : bodies ds ≡ map (λ g. on_line g.frame) frames = cc in
+      ap (λ x. x ∷ map (λ e. bytes_in e.body) ds)
+      (ap bytes_in first ∙ bytes_in-byte_ticks f.frame)
+      ∙ ap (λ x. f.frame ∷ x) (bytes-are ds frames tail)
+
+  -- The accepted frames are some of those that passed, in their order.
+  pub accepted-passed : (floor : ℕ) (link : List Tick)
+      → IsSubsequence (map (λ d. bytes_in d.body)
+      (accepted_of heard gap cap (received_line profile rules floor link)))
+      (bytes_sealed (passed profile rules floor link))
+  accepted-passed floor link =
+      let line : List Tick = received_line profile rules floor link in
+      let all : List NumberedFrame = passed profile rules floor link in
+      let some = some-kept gap cap (record { accepted = []; lost = [] }) (arrivals heard line) in
+      let image = image-of (delivered profile) (map (λ a. a.frame) some.kept)
+      (map (delivered profile) all) all
+      (chain-is (map (λ a. a.frame) some.kept) (map (λ a. a.frame) (arrivals heard line))
+      (map (delivered profile) all) (map-is (λ a. a.frame) some.among) (arriving-passed floor link))
+      refl in
+      subst (λ x. IsSubsequence x (bytes_sealed all))
+      (sym (bytes-are (accepted_of heard gap cap line) image.of
+      (some.are ∙ sent-as some.kept image.of image.is)))
+      (map-is (λ f. f.frame) image.among)
+
+  -- If the spacer reads all frames that passed, and loses none, the accepted frames are those.
+  pub accepted-all : (floor : ℕ) (link : List Tick)
+      → heard (received_line profile rules floor link)
+      ≡ map (delivered profile) (passed profile rules floor link)
+      → lost_of heard gap cap (received_line profile rules floor link) ≡ []
+      → map (λ d. bytes_in d.body)
+      (accepted_of heard gap cap (received_line profile rules floor link))
+      ≡ bytes_sealed (passed profile rules floor link)
+  accepted-all floor link reads unlost =
+      let line : List Tick = received_line profile rules floor link in
+      let all : List NumberedFrame = passed profile rules floor link in
+      let es : List Burst = emitted_by (checker profile rules) (at_floor floor) (bursts link) in
+      let late : 2 ≤ delay profile = omega arith in
+      let spread = emissions-apart 2 profile rules lawful (omega arith) late floor link in
+      let frames : map (λ a. a.frame) (arrivals heard line) ≡ map (delivered profile) all =
+      frames-laid ends hears.whole heard es spread (hears.emissions floor link) (length link)
+      ∙ reads in
+      bytes-are (accepted_of heard gap cap line) all
+      (all-kept gap cap (record { accepted = []; lost = [] }) (arrivals heard line) unlost
+      ∙ sent-as (arrivals heard line) all frames)
 
   pub gives-only-sealed : (seal_floor check_floor : ℕ) (line link : List Tick)
       → GivesOnlySealed profile rules heard gap cap seal_floor check_floor line link

@@ -12,11 +12,12 @@ use Rattle.line_rules.specs.{RulesLaws.IsFramed, Spoiling.IsSpoiling}
 use Rattle.link_format.specs.Profile.{Profile, delay}
 use Rattle.link_box.specs.Checking.{checker, at_floor}
 use Rattle.receiver_laws.proofs.Anew.{anew-hunter, anew_reads_what_passed}
-use Rattle.receiver_laws.proofs.HunterReadings.{plain-hunter, emissions-taken}
+use Rattle.receiver_laws.proofs.HunterReadings.{plain-hunter, emissions-taken, wrong-frame}
 use Rattle.receiver_laws.proofs.{HunterReadings.hunt_reads_what_passed, Hunters.hunter-laid}
-use Rattle.receiver_laws.proofs.{RtuReadings.rtu_reads_what_passed, Settled.reads_with}
-use Rattle.receiver_laws.{proofs.Settled.reads-laid, specs.Hunters.IsHunter}
-use Rattle.{receiver_laws.specs.Reading.ReadsWhatPassed, rtu_frame.specs.Rules.rtu_rules}
+use Rattle.receiver_laws.proofs.RtuReadings.{rtu_reads_what_passed, wrong-frame as rtu-wrong}
+use Rattle.receiver_laws.proofs.Settled.{reads_with, reads-laid}
+use Rattle.receiver_laws.specs.{Hunters.IsHunter, Reading.ReadsWhatPassed}
+use Rattle.rtu_frame.specs.Rules.{rtu_rules}
 use Rattle.{rtu_frame.specs.Rules.rtu_lawful, spacer_laws.proofs.Guarding.HearsEmissions}
 use Rattle.spacer_laws.proofs.{Guarding.emissions-apart, ReadFrames.rtu-frames}
 use Rattle.spacer_laws.{proofs.ReadFrames.family-frames, specs.SpacesOut.ReadsFrames}
@@ -29,6 +30,7 @@ rtu-hears cut pause profile some near long = record {
   sound = rtu-frames cut pause;
   passes = rtu_reads_what_passed profile cut pause some near long;
   whole = λ d. is_frame_body pause d.body;
+  refuses = rtu-wrong profile cut pause some near long;
   emissions = λ floor link m. reads-laid cut pause m
       (emitted_by (checker profile rtu_rules) (at_floor floor) (bursts link))
       (emissions-apart cut profile rtu_rules rtu_lawful some near floor link);
@@ -47,6 +49,7 @@ module _ (first second : ℕ) (rules : Rules) (lawful : IsLawful rules) (headed 
         sound = sound;
         passes = passes;
         whole = λ d. rules.is_frame (bytes_in d.body);
+        refuses = wrong-frame first second rules headed framed hunted profile lawful spoiling;
         emissions = λ floor link m.
             hunter-laid first second rules headed framed hunted read hunter m
             (emitted_by (checker profile rules) (at_floor floor) (bursts link))

@@ -14,7 +14,7 @@ use Rattle.receiver_laws.proofs.{Settled.reads_with, Standing.ticks-behind, Stan
 use Rattle.{rtu_frame.specs.Rules.rtu_framed, spacer_laws.proofs.Accepted.all-first}
 use Rattle.spacer_laws.proofs.Accepted.{all-others, begin_of, taken-keeps, all-cons, arrivals-steps}
 use Rattle.spacer_laws.proofs.{Accepted.arrivals-all, ReadFrames.rtu-frames, ReadFrames.hunt-all}
-use Rattle.spacer_laws.{proofs.ReadFrames.hunts-all, specs.Leaving.HaveLeft, specs.Leaving.AllLeave}
+use Rattle.spacer_laws.{proofs.ReadFrames.hunts-all, specs.Leaving.HaveLeft}
 use Rattle.std.proofs.Common.{◌≡◌, ◌∙◌, ℕ, zero, suc, ◌+◌, ◌-◌, ◌*◌, ◌<◌, ◌≤◌, List, [], ◌∷◌, ◌++◌}
 use Rattle.std.proofs.Common.{length, map, take, max, fold, refl, sym, ap, subst, arith, nat_le}
 use Rattle.std.proofs.Common.{true, cond, Bool, ⊎_elim, append_assoc, length-append, drop, get_or}
@@ -156,6 +156,10 @@ module _ (gap m b : ℕ) where
         (all-others IsBefore a more before) (all-others IsShort a more short)
         (one-more s a (all-first IsBefore a more before) (all-first IsShort a more short) is)
 
+-- What has left no tick early has left.
+pub left-by : (m : ℕ) (ds : List Burst) → HaveLeft (m - 0) ds → HaveLeft m ds
+left-by m ds left = let none : m - 0 ≡ m = omega arith in subst (λ k. HaveLeft k ds) none left
+
 -- ---- after a line of which nothing more is read
 
 -- Holds if nothing more is read in any number of silent ticks after a line.
@@ -185,8 +189,10 @@ module _ (heard : List Tick → List FrameRead) (gap cap b : ℕ) (line : List T
       ∙ (ap (λ x. arrivals heard line ++ x) (silent-arrivals heard line rest nothing)
       ∙ append-nil (arrivals heard line))
 
-  pub all-leave : (rest : ℕ) → (cap + 1) * b ≤ rest → AllLeave heard gap cap line rest
-  all-leave rest enough =
+  -- All frames have left `early` ticks before the end of enough silence.
+  pub all-leave : (rest early : ℕ) → (cap + 1) * b + early ≤ rest
+      → HaveLeft (length (line ++ silent rest) - early) (accepted_of heard gap cap (line ++ silent rest))
+  all-leave rest early enough =
       let m : ℕ = length line in
       let start : Spaced = record { accepted = []; lost = [] } in
       let ds : List Burst = accepted_of heard gap cap line in
@@ -199,11 +205,11 @@ module _ (heard : List Tick → List FrameRead) (gap cap b : ℕ) (line : List T
       let long = length-append line (silent rest) in
       let quiet = length-replicate rest Silent in
       let more : (cap + 1) * b ≡ b + cap * b = grind arith in
-      let by : free_from gap 0 ds ≤ length (line ++ silent rest) = omega arith in
+      let by : free_from gap 0 ds ≤ length (line ++ silent rest) - early = omega arith in
       let same : accepted_of heard gap cap (line ++ silent rest) ≡ ds =
       ap (λ x. (fold (take_in gap cap) start x).accepted) (same-arrivals rest) in
-      subst (λ x. HaveLeft (length (line ++ silent rest)) x) (sym same)
-      (reached gap m b 0 (length (line ++ silent rest)) ds all.soon by)
+      subst (λ x. HaveLeft (length (line ++ silent rest) - early) x) (sym same)
+      (reached gap m b 0 (length (line ++ silent rest) - early) ds all.soon by)
 
 -- ---- Modbus RTU
 
@@ -223,7 +229,7 @@ module _ (cut pause : ℕ) where
       ∙ sym (frames_read-append cut pause n (d ∷ []) ds)))
 
   -- Once the silence that ends a burst is over, nothing more is read in silence.
-  rtu-nothing : (line : List Tick) → ReadsNothing (reads_with cut pause) (line ++ silent cut)
+  pub rtu-nothing : (line : List Tick) → ReadsNothing (reads_with cut pause) (line ++ silent cut)
   rtu-nothing line n =
       let quiet : List Tick = line ++ silent cut in
       let ds : List Burst = bursts_from cut 0 line in
@@ -249,13 +255,15 @@ module _ (cut pause : ℕ) where
       (rtu-frames cut pause line k f within) in
       omega arith
 
-  pub rtu-leave : (gap cap : ℕ) (line : List Tick) (rest : ℕ)
-      → (cap + 1) * (256 + gap) + cut ≤ rest
-      → AllLeave (reads_with cut pause) gap cap line rest
-  rtu-leave gap cap line rest enough =
+  pub rtu-leave : (gap cap : ℕ) (line : List Tick) (rest early : ℕ)
+      → (cap + 1) * (256 + gap) + cut + early ≤ rest
+      → HaveLeft (length (line ++ silent rest) - early)
+      (accepted_of (reads_with cut pause) gap cap (line ++ silent rest))
+  rtu-leave gap cap line rest early enough =
       let heard : List Tick → List FrameRead = reads_with cut pause in
       let quiet : List Tick = line ++ silent cut in
-      let P : List Tick → Type 0 = λ l. HaveLeft (length l) (accepted_of heard gap cap l) in
+      let P : List Tick → Type 0 =
+      λ l. HaveLeft (length l - early) (accepted_of heard gap cap l) in
       let joined : quiet ++ silent (rest - cut) ≡ line ++ silent rest =
       append_assoc line (silent cut) (silent (rest - cut))
       ∙ ap (λ x. line ++ x) (silent-join cut (rest - cut) rest (omega arith)) in
@@ -263,7 +271,7 @@ module _ (cut pause : ℕ) where
       (all-leave heard gap cap (256 + gap) quiet
       (arrivals-all (λ (f : FrameRead). length f.frame + gap ≤ 256 + gap) heard [] quiet
       (λ n. rtu-short gap (take n quiet)))
-      (rtu-nothing line) (rest - cut) (omega arith))
+      (rtu-nothing line) (rest - cut) early (omega arith))
     where
       silent-join : (a c n : ℕ) → a + c ≡ n → silent a ++ silent c ≡ silent n
       silent-join zero c n sum = let same : c ≡ n = omega arith in ap (λ k. silent k) same
@@ -317,21 +325,22 @@ module _ (first second : ℕ) (rules : Rules) (lawful : IsLawful rules)
         (bursts-fit (suc cut) 0 line (bursts_from (suc cut) 0 line)
         (bursts_from-are (suc cut) 0 line) fit)
 
-    hunt-nothing : (cut : ℕ) (line : List Tick)
+    pub hunt-nothing : (cut : ℕ) (line : List Tick)
         → ReadsNothing (hunt_family first second rules cut) line
     hunt-nothing zero line n = ap (hunt first second rules 0) (timed-silences line n)
     hunt-nothing (suc cut) line n =
         ap (λ ds. flat_map (λ (d : Burst). hunt first second rules 0 (timed d.start d.body)) ds)
         (bursts_from-silent_end (suc cut) 0 n line)
 
-    pub hunt-leave : (cut cap : ℕ) (line : List Tick) (rest : ℕ) → AreTicks line
-        → (cap + 1) * (rules.longest + gap) ≤ rest
-        → AllLeave (hunt_family first second rules cut) gap cap line rest
-    hunt-leave cut cap line rest fit enough =
+    pub hunt-leave : (cut cap : ℕ) (line : List Tick) (rest early : ℕ) → AreTicks line
+        → (cap + 1) * (rules.longest + gap) + early ≤ rest
+        → HaveLeft (length (line ++ silent rest) - early)
+        (accepted_of (hunt_family first second rules cut) gap cap (line ++ silent rest))
+    hunt-leave cut cap line rest early fit enough =
         let heard : List Tick → List FrameRead = hunt_family first second rules cut in
         let P : List Tick → Type 0 = λ x. AreTicks x in
         all-leave heard gap cap (rules.longest + gap) line
         (arrivals-all IsShort heard [] line
         (λ n. hunt-short cut (take n line) (ticks-front (take n line) (drop n line)
         (subst P (sym (take-append-drop n line)) fit))))
-        (hunt-nothing cut line) rest enough
+        (hunt-nothing cut line) rest early enough

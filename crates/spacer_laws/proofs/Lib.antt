@@ -7,5 +7,7 @@ pub mod Delivering
 pub mod LaidArrivals
 pub mod Guarding
 pub mod Guards
+pub mod Passing
 pub mod GivingAll
 pub mod GivingUntouched
+pub mod Unlost

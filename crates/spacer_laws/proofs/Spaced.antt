@@ -49,7 +49,7 @@ module _ (cut pause gap : ℕ) (some : 2 ≤ cut) (near : cut ≤ gap) (long : 2
       (contiguous-calm pause body long (bytes-contiguous 2 sent.frame (omega arith) byte))
       ∙ (ap is_frame (bytes_in-byte_ticks sent.frame) ∙ sent.framed))
 
-  rtu-laid : (m : ℕ) (ds : List Burst) → AreApart rtu_rules gap 0 ds
+  pub rtu-laid : (m : ℕ) (ds : List Burst) → AreApart rtu_rules gap 0 ds
       → reads_with cut pause (laid m ds) ≡ frames_by cut m ds
   rtu-laid m ds apart =
       reads-laid cut pause m ds
@@ -95,7 +95,7 @@ module _ (first second : ℕ) (rules : Rules) (headed : IsHeaded rules) (framed 
       ∙ ended-whole 0 m (λ d. rules.is_frame (bytes_in d.body)) ds
       (all-sent (λ d. rules.is_frame (bytes_in d.body) ≡ true) rules gap 0 ds hunt-whole apart)
 
-  family-spaced : (cut : ℕ) → (cut ≡ 0) ⊎ (2 ≤ cut) → (m : ℕ) (ds : List Burst)
+  pub family-spaced : (cut : ℕ) → (cut ≡ 0) ⊎ (2 ≤ cut) → (m : ℕ) (ds : List Burst)
       → AreApart rules gap 0 ds
       → hunt_family first second rules cut (laid m ds) ≡ frames_by 0 m ds
   family-spaced zero member m ds apart =

@@ -1,6 +1,11 @@
 //! How often the loop over three recordings calls the boxes and the device: each run is handed over
 //! whole. No contract says so.
+ghost use Rattle.std.specs.Prelude.{[]};
+ghost use Rattle.session_lists.specs.FrameList.{Holds};
+
 use super::{Floors, SessionLists, Timing};
+use crate::frame_list::FrameList;
+use crate::guard::Guard;
 use crate::lateness::Lateness;
 use crate::replay_lists::turn_tests::{Calls, Deaf, Wire};
 use crate::sessions::list_session;
@@ -8,7 +13,8 @@ use link_format::Dir;
 use std::alloc::Global;
 use std::test::Fail;
 use tick_drive::End;
-use yasir_io::SteadySource;
+use yasir_io::{NoMemory, SteadySource};
+use yasir_ticks::Tick;
 
 // Three recordings, separated by marks: a line of bytes and one of silence, then one of each, then
 // two lines of bytes and one of silence.
@@ -27,25 +33,58 @@ const FLOORS: Floors = Floors { sent: 0, got: 0 };
 const TIMING: Timing = Timing {
     late: Lateness {
         late: 18,
-        spacing: None,
         least: 0,
         most: 0,
     },
+    spaced: false,
     sent_rest: 24,
     link_rest: 320,
     received_rest: 4,
 };
 
+/// A guard that hears every tick, and behind which nothing is read.
+#[derive(Drop)]
+struct Absent {
+    taken: u64,
+    frames: FrameList<u64>,
+}
+
+impl Guard for Absent {
+    ghost reads = { λ line. [] };
+
+    ghost stands = { λ value line. Holds value.frames [] };
+
+    ghost taken = { λ value. value.taken };
+
+    ghost gap_fits = { Unit {0} };
+
+    fn new(alloc: Global) -> Result<Self, NoMemory> {
+        Ok(Absent {
+            taken: 0,
+            frames: FrameList::new(alloc),
+        })
+    }
+
+    fn hear(&mut self, _tick: Tick) -> Result<(), NoMemory> {
+        self.taken += 1;
+        Ok(())
+    }
+
+    fn frames(&self) -> &FrameList<u64> {
+        &self.frames
+    }
+}
+
 // The lists after all three recordings, with two wires as the boxes and a device that reads
 // nothing.
-fn listed(alloc: Global) -> Result<SessionLists<Wire, Wire, Deaf>, Fail> {
-    let mut lists: SessionLists<Wire, Wire, Deaf> = SessionLists::new(
+fn listed(alloc: Global) -> Result<SessionLists<Wire, Wire, Deaf, Absent>, Fail> {
+    let mut lists: SessionLists<Wire, Wire, Deaf, Absent> = SessionLists::new(
         alloc,
         &[0; 16],
         Dir::Ab,
         FLOORS,
         TIMING,
-    );
+    )?;
     let mut input = SteadySource::new(TEXT);
     match list_session(&mut lists, &mut input) {
         End::Whole => Ok(lists),

@@ -1,50 +1,27 @@
-use Rattle.link_format.specs.NumberedFrame.{NumberedFrame}
 use Rattle.command_ends.specs.Links.{delay_of}
-use Rattle.device_model.specs.Frames.{FrameRead}
-use Rattle.session_audit.proofs.Lately.{expected-soon, spacer-soon, gap-near, delay-soon}
-use Rattle.session_lists.proofs.Lists.{holds-length, frames-short}
-use Rattle.session_lists.specs.FrameBox.{kept_frames, kept_numbered}
-use Rattle.{session_lists.specs.Listed.link_rest, session_audit.specs.Through.setups_of}
-use Rattle.session_audit.specs.Through.{lateness_through}
-use Rattle.std.proofs.Common.{◌+◌, ◌*◌, ◌^◌, ◌<◌, ◌≤◌, ◌++◌, List, arith, length}
-use Rattle.std.proofs.lemmas.List.{length-map}
+use Rattle.link_format.specs.NumberedFrame.{NumberedFrame}
+use Rattle.session_audit.proofs.Lately.{delay-soon}
+use Rattle.session_audit.specs.Through.{lateness_through, link_through, setups_of}
+use Rattle.std.proofs.Common.{◌+◌, ◌^◌, ◌<◌, ◌≤◌, arith, length}
 use Rattle.std.proofs.lemmas.List.Elements.{All-weaker}
-use Rattle.yasir_ticks.specs.Ticks.{silent}
 use Rattle.session_audit.proofs.judged_lists.judge_lists.Goals as goal
 
 pub difference-requires : goal.difference-requires
 difference-requires g c =
     let some = c.requires.taken in
     let session = c.args.session.now in
-    let passes = some.taken.has.passes in
-    let frames : List NumberedFrame =
-    (g.C.FrameBox.numbering (setups_of session).got).frames (some.link ++ silent link_rest) in
-    let few : length frames < 2 ^ 32 =
-    omega (
-      arith,
-      some.taken.few,
-      some.taken.able.few_passed,
-      holds-length _ (kept_frames frames) passes.holds,
-      length-map frames kept_numbered,
-    ) in
     record {
       setups = setups_of session;
       device = _;
       link = _;
       received = _;
       has = some.taken.has;
-      in_time = All-weaker (λ (f : FrameRead). f.start ≤ 2 ^ 33 + 2 ^ 32 * 547)
-          (λ (f : FrameRead). f.start < 2 ^ 64) (λ f within. omega (arith, within)) _
-          (expected-soon (lateness_through session) (spacer-soon session)
-          (gap-near session) (2 ^ 33 + 2 ^ 32 * 547) (2 ^ 33) 0 frames (omega arith)
-          (All-weaker
-          (λ (f : NumberedFrame). f.start ≤ length (some.link ++ silent link_rest))
-          (λ (f : NumberedFrame). delay_of session.profile + f.start + 547 ≤ 2 ^ 33)
+      in_time = All-weaker
+          (λ (f : NumberedFrame). f.start ≤ length (link_through session some.link))
+          (λ (f : NumberedFrame). delay_of session.profile + f.start < 2 ^ 64)
           (λ (f : NumberedFrame) within.
-          omega (arith, within, some.short, delay-soon session.profile)) frames
-          (c.requires.in_time (setups_of session).got (some.link ++ silent link_rest)))
-          (frames-short _ frames passes.holds)
-          (omega (arith, few)));
+          omega (arith, within, some.short, delay-soon session.profile)) _
+          (c.requires.in_time (setups_of session).got (link_through session some.link));
     }
 
 pub judge-requires-clause-sealed : goal.judge-requires-clause-sealed
@@ -65,7 +42,7 @@ judge-requires-clause-short g c =
 
 pub returns : goal.returns
 returns g c = λ device link received taken.
-    c.judge.ensures (lateness_through c.args.session.now) _ _ _
+    c.judge.ensures (lateness_through c.args.session.now) _ _ _ _
     (c.sealed.ensures.frames (setups_of c.args.session.now) _ _ _ taken.has)
     (c.passed.ensures.frames (setups_of c.args.session.now) _ _ _ taken.has)
     (c.read_count.ensures.count (setups_of c.args.session.now) _ _ _ taken.has)

@@ -30,16 +30,16 @@ audit_input_by-requires-4-clause-in_time g c = λ setup line. passed-starts _ dn
 
 pub returns-in-Rtu-Y18-with_link-clause-audits : goal.returns-in-Rtu-Y18-with_link-clause-audits
 returns-in-Rtu-Y18-with_link-clause-audits g c =
-    rw (c.in-Rtu-Y18-with_link.is-0, c.in-Rtu-Y18-with_link.is-1) (rw (c.in-Rtu-Y18-with_link.is-0, c.in-Rtu-Y18-with_link.is-1) at c.audit_input_by.ensures.audits)
+    rw (c.in-Rtu-Y18-with_link.is-0, c.in-Rtu-Y18-with_link.is-1) (rw (c.in-Rtu-Y18-with_link.is-1) at c.audit_input_by.ensures.audits)
 
 pub returns-in-Rtu-Y24-with_link-clause-audits : goal.returns-in-Rtu-Y24-with_link-clause-audits
 returns-in-Rtu-Y24-with_link-clause-audits g c =
-    rw (c.in-Rtu-Y24-with_link.is-0, c.in-Rtu-Y24-with_link.is-1) (rw (c.in-Rtu-Y24-with_link.is-0, c.in-Rtu-Y24-with_link.is-1) at c.audit_input_by-2.ensures.audits)
+    rw (c.in-Rtu-Y24-with_link.is-0, c.in-Rtu-Y24-with_link.is-1) (rw (c.in-Rtu-Y24-with_link.is-1) at c.audit_input_by-2.ensures.audits)
 
 pub returns-in-Dnp3-Y18-with_link-clause-audits : goal.returns-in-Dnp3-Y18-with_link-clause-audits
 returns-in-Dnp3-Y18-with_link-clause-audits g c =
-    rw (c.in-Dnp3-Y18-with_link.is-0, c.in-Dnp3-Y18-with_link.is-1) (rw (c.in-Dnp3-Y18-with_link.is-0, c.in-Dnp3-Y18-with_link.is-1) at c.audit_input_by-3.ensures.audits)
+    rw (c.in-Dnp3-Y18-with_link.is-0, c.in-Dnp3-Y18-with_link.is-1) (rw (c.in-Dnp3-Y18-with_link.is-1) at c.audit_input_by-3.ensures.audits)
 
 pub returns-in-Dnp3-Y24-with_link-clause-audits : goal.returns-in-Dnp3-Y24-with_link-clause-audits
 returns-in-Dnp3-Y24-with_link-clause-audits g c =
-    rw (c.in-Dnp3-Y24-with_link.is-0, c.in-Dnp3-Y24-with_link.is-1) (rw (c.in-Dnp3-Y24-with_link.is-0, c.in-Dnp3-Y24-with_link.is-1) at c.audit_input_by-4.ensures.audits)
+    rw (c.in-Dnp3-Y24-with_link.is-0, c.in-Dnp3-Y24-with_link.is-1) (rw (c.in-Dnp3-Y24-with_link.is-1) at c.audit_input_by-4.ensures.audits)

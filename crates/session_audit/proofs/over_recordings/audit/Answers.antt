@@ -30,16 +30,16 @@ audit_by-requires-4-clause-in_time c = λ setup line. passed-starts _ dnp_rules 
 
 pub returns-in-Rtu-Y18-with_link : goal.returns-in-Rtu-Y18-with_link
 returns-in-Rtu-Y18-with_link c =
-    rw (c.in-Rtu-Y18-with_link.is-0, c.in-Rtu-Y18-with_link.is-1) (rw (c.in-Rtu-Y18-with_link.is-0, c.in-Rtu-Y18-with_link.is-1) at c.audit_by.ensures)
+    rw (c.in-Rtu-Y18-with_link.is-0, c.in-Rtu-Y18-with_link.is-1) (rw (c.in-Rtu-Y18-with_link.is-1) at c.audit_by.ensures)
 
 pub returns-in-Rtu-Y24-with_link : goal.returns-in-Rtu-Y24-with_link
 returns-in-Rtu-Y24-with_link c =
-    rw (c.in-Rtu-Y24-with_link.is-0, c.in-Rtu-Y24-with_link.is-1) (rw (c.in-Rtu-Y24-with_link.is-0, c.in-Rtu-Y24-with_link.is-1) at c.audit_by-2.ensures)
+    rw (c.in-Rtu-Y24-with_link.is-0, c.in-Rtu-Y24-with_link.is-1) (rw (c.in-Rtu-Y24-with_link.is-1) at c.audit_by-2.ensures)
 
 pub returns-in-Dnp3-Y18-with_link : goal.returns-in-Dnp3-Y18-with_link
 returns-in-Dnp3-Y18-with_link c =
-    rw (c.in-Dnp3-Y18-with_link.is-0, c.in-Dnp3-Y18-with_link.is-1) (rw (c.in-Dnp3-Y18-with_link.is-0, c.in-Dnp3-Y18-with_link.is-1) at c.audit_by-3.ensures)
+    rw (c.in-Dnp3-Y18-with_link.is-0, c.in-Dnp3-Y18-with_link.is-1) (rw (c.in-Dnp3-Y18-with_link.is-1) at c.audit_by-3.ensures)
 
 pub returns-in-Dnp3-Y24-with_link : goal.returns-in-Dnp3-Y24-with_link
 returns-in-Dnp3-Y24-with_link c =
-    rw (c.in-Dnp3-Y24-with_link.is-0, c.in-Dnp3-Y24-with_link.is-1) (rw (c.in-Dnp3-Y24-with_link.is-0, c.in-Dnp3-Y24-with_link.is-1) at c.audit_by-4.ensures)
+    rw (c.in-Dnp3-Y24-with_link.is-0, c.in-Dnp3-Y24-with_link.is-1) (rw (c.in-Dnp3-Y24-with_link.is-1) at c.audit_by-4.ensures)

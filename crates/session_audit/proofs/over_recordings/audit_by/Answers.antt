@@ -1,4 +1,5 @@
-use Rattle.{session_lists.specs.Listed.link_rest, session_audit.specs.Through.setups_of}
+use Rattle.session_audit.proofs.Lately.{rest-few}
+use Rattle.session_audit.specs.{Sessions.rest_behind, Through.setups_of}
 use Rattle.std.proofs.{Common.arith, Common.length-append, lemmas.List.length-replicate}
 use Rattle.yasir_ticks.specs.{Ticks.silent, declared.tick.Tick.TheVariants.Silent}
 use Rattle.session_audit.proofs.over_recordings.audit_by.Goals as goal
@@ -13,25 +14,27 @@ list_lines-requires-clause-short g c = omega (
 
 pub judge_lists-requires-clause-taken : goal.judge_lists-requires-clause-taken
 judge_lists-requires-clause-taken g c =
-    let lists = c.in-Ok.ensures in
-    let long = length-append c.args.lines.link.now (silent link_rest) in
-    let rest = length-replicate link_rest Silent in record {
+    let lists = c.in-Ok-list_lines.ensures in
+    let after = rest_behind c.args.session.now.tolerance.spaced in
+    let long = length-append c.args.lines.link.now (silent after) in
+    let rest = length-replicate after Silent in
+    let soon = rest-few c.args.session.now.tolerance.spaced in record {
       device = _;
       link = _;
       received = _;
       taken = record {
-        has = lists.has (setups_of c.args.session.now) c.lists_for-lists.ensures.has;
+        has = lists.has (setups_of c.args.session.now) c.in-Ok.ensures.has;
         able = lists.able;
         few = lists.few;
       };
-      short = omega (arith, long, rest, c.requires.recordings.link_len);
+      short = omega (arith, long, rest, soon, c.requires.recordings.link_len);
     }
 
-pub returns-in-Ok : goal.returns-in-Ok
-returns-in-Ok g c =
-    let lists = c.in-Ok.ensures in
+pub returns-in-Ok-list_lines : goal.returns-in-Ok-list_lines
+returns-in-Ok-list_lines g c =
+    let lists = c.in-Ok-list_lines.ensures in
     c.judge_lists.ensures _ _ _ (record {
-      has = lists.has (setups_of c.args.session.now) c.lists_for-lists.ensures.has;
+      has = lists.has (setups_of c.args.session.now) c.in-Ok.ensures.has;
       able = lists.able;
       few = lists.few;
     })

@@ -10,7 +10,7 @@ pub returns-clause-hears : goal.returns-clause-hears
 returns-clause-hears g c =
     let n = c.hear_run-met.result.taken in
     let long = length-take-le n (run_ticks c.args.run) c.hear_run-met.ensures.within in
-    hears-lent g.V.Device c.args.passed.late c.args.passed.frames.now
+    hears-lent g.V.Device c.args.expected
     c.args.device.now c.hear_run-met.new.device c.args.read.now c.take_lent.new.read _
     (frames_lent c.hear_run-met.result.start
     (g.V.Device.lent c.hear_run-met.new.device))

@@ -27,5 +27,5 @@ pub returns : goal.returns
 returns g c =
     let all : take c.loop-index.index c.args.line.now ≡ c.args.line.now =
     take_all c.loop-index.index c.args.line.now (omega arith) in
-    subst (HearsOn g.V.Device c.args.passed.late c.args.passed.frames.now c.args.device.now
+    subst (HearsOn g.V.Device c.args.expected c.args.device.now
     c.loop-index.device c.args.read.now c.loop-index.read) all c.loop-index.invariant

@@ -27,5 +27,5 @@ loop-preserved g c = goes-silent _ _ _ c.args.device.now c.loop.device c.hear_ti
 pub returns : goal.returns
 returns g c =
     let all : c.loop.counter ≡ c.args.ticks = omega arith in
-    subst (λ n. HearsOn g.V.Device c.args.passed.late c.args.passed.frames.now c.args.device.now
+    subst (λ n. HearsOn g.V.Device c.args.expected c.args.device.now
     c.loop.device c.args.read.now c.loop.read (silent n)) all c.loop.invariant

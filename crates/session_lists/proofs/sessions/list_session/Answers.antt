@@ -5,32 +5,32 @@ use Rattle.session_lists.proofs.sessions.list_session.Goals as goal
 
 pub returns-in_default-clause-listed : goal.returns-in_default-clause-listed
 returns-in_default-clause-listed g c =
-    ends-session g.S.FrameBox g.C.FrameBox g.V.Device _ _ _ _ c.requires.fresh _
+    ends-session g.S.FrameBox g.C.FrameBox g.V.Device g.G.Guard _ _ _ _ c.requires.fresh _
     c.in_default.not-Whole c.drive_with_room.ensures.driven
 
 pub rest-requires-clause-room : goal.rest-requires-clause-room
 rest-requires-clause-room g c =
     let driven = c.in-Whole.ensures.driven in
-    let same = ap all_rests (timing-same g.S.FrameBox g.C.FrameBox g.V.Device _ _ _ _
+    let same = ap all_rests (timing-same g.S.FrameBox g.C.FrameBox g.V.Device g.G.Guard _ _ _ _
     c.requires.fresh driven) in
     omega (
       arith,
       same,
       c.requires.fresh.short,
-      few-whole g.S.FrameBox g.C.FrameBox g.V.Device _ _ _ _ c.requires.fresh driven,
+      few-whole g.S.FrameBox g.C.FrameBox g.V.Device g.G.Guard _ _ _ _ c.requires.fresh driven,
     )
 
 pub returns-in-Ok-clause-listed : goal.returns-in-Ok-clause-listed
 returns-in-Ok-clause-listed g c =
     let driven = c.in-Whole.ensures.driven in
-    let same = ap all_rests (timing-same g.S.FrameBox g.C.FrameBox g.V.Device _ _ _ _
+    let same = ap all_rests (timing-same g.S.FrameBox g.C.FrameBox g.V.Device g.G.Guard _ _ _ _
     c.requires.fresh driven) in
     record {
       items = driven.items;
       takes = driven.takes;
       lists = record {
         has = λ setups has. c.in-Ok.ensures.rests setups _ _ _
-            (session-whole g.S.FrameBox g.C.FrameBox g.V.Device _ _ _ _ c.requires.fresh driven
+            (session-whole g.S.FrameBox g.C.FrameBox g.V.Device g.G.Guard _ _ _ _ c.requires.fresh driven
             setups has);
         able = c.in-Ok.ensures.able;
         few = omega (
@@ -38,7 +38,7 @@ returns-in-Ok-clause-listed g c =
           c.in-Ok.ensures.taken,
           same,
           c.requires.fresh.short,
-          few-whole g.S.FrameBox g.C.FrameBox g.V.Device _ _ _ _ c.requires.fresh driven,
+          few-whole g.S.FrameBox g.C.FrameBox g.V.Device g.G.Guard _ _ _ _ c.requires.fresh driven,
         );
       };
     }

@@ -8,5 +8,5 @@ take_front-requires-clause-room g c =
     omega (arith, c.requires.may.room, ap length (ticks_in-run c.args.run))
 
 pub returns-in-Err : goal.returns-in-Err
-returns-in-Err g c = gives-none g.S.FrameBox g.C.FrameBox g.V.Device _ _ _
+returns-in-Err g c = gives-none g.S.FrameBox g.C.FrameBox g.V.Device g.G.Guard _ _ _
     (omega (arith, c.requires.some, length-run_items c.args.run))
