@@ -1,6 +1,5 @@
 -- The parts that make up the protocols and profiles of links.
 use Rattle.std.specs.Prelude.{◌≡◌, ◌≢◌, ℕ, List, Option, Some, None}
-use Rattle.yasir_ticks.specs.declared.TheConstants.{T3_5_TICKS}
 use Rattle.yasir_ticks.specs.declared.tick.Tick.{Tick}
 use Rattle.line_rules.specs.Rules.{Rules}
 use Rattle.rtu_frame.specs.Rules.{rtu_rules}
@@ -59,11 +58,6 @@ link_of proto profile dir = record {
 abbrev pub gap_of : Profile → ℕ
 gap_of Y18 = 21
 gap_of Y24 = 27
-
--- how many silent ticks after its last byte the stated device of a protocol reads a frame
-abbrev pub silence_of : Proto → ℕ
-silence_of Rtu = T3_5_TICKS
-silence_of Dnp3 = 0
 
 -- Holds if the value has this number, or if there is no value, and none has this number.
 module _ {A : Type 0} (number_of : A → ℕ) where

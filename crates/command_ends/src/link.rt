@@ -11,7 +11,6 @@ ghost use Rattle.command_ends.specs.Links.{link_of};
 use line_rules::LineRules;
 use link_format::Dir;
 use sequence_journal::LinkId;
-use yasir_ticks::T3_5_TICKS;
 
 /// The protocol of a line.
 #[derive(Clone, Copy, Debug, PartialEq, Eq)]
@@ -110,18 +109,7 @@ pub fn link_of(proto: Proto, profile: Profile, dir: Dir) -> LinkId
 }
 
 impl Proto {
-    ghost use Rattle.command_ends.specs.Links.{HasKnownNumber, label_of, silence_of};
-
-    /// Returns how many silent ticks after its last byte the protocol's device reads a frame.
-    pub fn silence(self) -> u8
-        /// They are the silent ticks of the protocol's stated device.
-        ensures { result ≡ silence_of self }
-    {
-        match self {
-            Proto::Rtu => T3_5_TICKS,
-            Proto::Dnp3 => 0,
-        }
-    }
+    ghost use Rattle.command_ends.specs.Links.{HasKnownNumber, label_of};
 
     /// Returns the protocol with this label, or `None` if there is none.
     pub fn of_label(label: u8) -> Option<Proto>
