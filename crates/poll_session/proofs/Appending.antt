@@ -1,7 +1,6 @@
 -- One more tick at the end of what was on the wires, and of what was said.
 use Rattle.duplex_box.specs.declared.pair.PairStep.{PairStep}
 use Rattle.std.proofs.Common.{◌≡◌, ◌∙◌, ℕ, ◌+◌, List, [], ◌∷◌, ◌++◌, length, map, refl, sym, ap, arith}
-use Rattle.std.specs.Prelude.{Bool}
 use Rattle.std.proofs.{Common.length-append, lemmas.List.map-append}
 use Rattle.yasir_ticks.specs.declared.tick.Tick.{Tick, TheVariants.Silent, TheVariants.Byte}
 use Rattle.two_wire.specs.Turns.{opposite, after_own, MaySay, OthersInTurn, MayBeDeaf, IsWithin}
@@ -120,22 +119,20 @@ four-wires : {a b c d e f g h : List Tick} → a ≡ e → b ≡ f → c ≡ g �
 four-wires p q r s = rw (p, q, r, s) refl
 
 pub steps-and : {A B : Type 0} (steps : List (WireStep A B)) (w : EndWires) (t : EndTick)
-    (held : Bool) (step : PairStep A B) → wires_in steps ≡ w
+    (step : PairStep A B) → wires_in steps ≡ w
     → wires_in (steps ++ (record {
       device_wires = t.device_wires;
       link_wires = t.link_wires;
       to_device = t.to_device;
       to_link = t.to_link;
-      held = held;
       step = step;
     } ∷ [])) ≡ wires_and w t
-steps-and {A} {B} steps w t held step is =
+steps-and {A} {B} steps w t step is =
     let s : WireStep A B = record {
       device_wires = t.device_wires;
       link_wires = t.link_wires;
       to_device = t.to_device;
       to_link = t.to_link;
-      held = held;
       step = step;
     } in
     four-wires (map-append (λ s. s.device_wires) steps (s ∷ []))

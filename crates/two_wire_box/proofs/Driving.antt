@@ -12,7 +12,7 @@ use Rattle.two_wire.specs.Gate.{gate_state, gate_side, gate_waits, gate_after, a
 use Rattle.two_wire.specs.Wires.{heard}
 use Rattle.two_wire.specs.declared.gate.Side.{Side}
 use Rattle.two_wire.specs.declared.gate.Waits.{Waits}
-use Rattle.two_wire_box.specs.Ends.{pair_of, gate_of, for_device, link_now, device_now, holds_now}
+use Rattle.two_wire_box.specs.Ends.{pair_of, gate_of, for_device, link_now, device_now}
 use Rattle.two_wire_box.specs.Lines.{WireStep, EndState, TakesStep, TakesSteps}
 use Rattle.two_wire_box.specs.Steady.{steady_state, HasDriven}
 use Rattle.two_wire_box.specs.declared.steady_end.SteadyEnd.{SteadyEnd}
@@ -50,7 +50,6 @@ module _ {S C A B : Type 0} (sends : LinkBox S A) (gets : LinkBox C B) where
         link_wires = link_wires;
         to_device = device_now old.wires;
         to_link = link_now old.wires;
-        held = holds_now old.wires;
         step = step;
       } ∷ []))
   driven-more side waits sent_setup got_setup old new steps device_wires link_wires step goes_on gate_is
@@ -60,14 +59,12 @@ module _ {S C A B : Type 0} (sends : LinkBox S A) (gets : LinkBox C B) where
         link_wires = link_wires;
         to_device = device_now old.wires;
         to_link = link_now old.wires;
-        held = holds_now old.wires;
         step = step;
       } in
       let first : TakesStep sends gets ghosts ghosts (gate_side (gate_of old.wires))
       (gate_waits (gate_of old.wires)) (steady_state old) s (steady_state new) = record {
         device_is = refl;
         link_is = refl;
-        held_is = refl;
         goes_on = goes_on;
         gate_is = gate_is;
         made = made;

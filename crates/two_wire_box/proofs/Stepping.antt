@@ -1,28 +1,23 @@
 -- The steps of a two-wire box are turns of its pair of boxes.
 use Rattle.duplex_box.specs.Pairs.{BothWays}
-use Rattle.duplex_box.specs.Turns.{Turn, Turns, MakesLine, ticks_from_device, notes_from}
+use Rattle.duplex_box.specs.Turns.{Turn, Turns, MakesLine, ticks_from_device}
 use Rattle.duplex_box.specs.Turns.{ticks_from_link, ticks_to_link, ticks_to_device}
 use Rattle.duplex_box.specs.Turns.{notes_sealed, notes_checked}
-use Rattle.frame_ending.specs.Answers.{told_notes}
-use Rattle.link_box.specs.Walking.{full_notes, other_line}
+use Rattle.link_box.specs.Walking.{other_line}
 use Rattle.link_box.specs.declared.box_trait.LinkBox.{Ghosts as LinkBox}
 use Rattle.link_format.specs.Setup.{Setup}
 use Rattle.sequence_journal.specs.Journal.{journal_floor}
-use Rattle.std.proofs.Common.{◌≡◌, ◌∙◌, ℕ, suc, List, [], ◌∷◌, ◌++◌, length, map, take, refl}
+use Rattle.std.proofs.Common.{◌≡◌, ◌∙◌, ℕ, List, [], ◌∷◌, length, map, take, refl}
 use Rattle.std.proofs.Common.{sym, ap, arith}
-use Rattle.std.specs.Prelude.{if◌then◌else◌}
 use Rattle.std.proofs.lemmas.List.{length-map, take_all}
 use Rattle.yasir_io.specs.declared.disk.SlotDisk.{Ghosts as SlotDisk}
 use Rattle.yasir_ticks.specs.declared.tick.Tick.{Tick, TheVariants.Silent}
 use Rattle.two_wire.specs.declared.gate.Side.{Side}
 use Rattle.two_wire.specs.declared.gate.Waits.{Waits}
 use Rattle.two_wire.specs.Gate.{at_rest, lets, let_through, gate_after, gated}
-use Rattle.two_wire.specs.Gate.{holds_back, held_steps}
 use Rattle.two_wire.specs.Wires.{heard, hears, on_wires}
 use Rattle.two_wire.proofs.Ends.{hears-long}
 use Rattle.two_wire_box.specs.Lines.{WireStep, EndState, TakesStep, TakesSteps, MakesWires}
-use Rattle.two_wire_box.specs.Lines.{steps_held, NotesSteps}
-use Rattle.yasir_ticks.specs.Bursts.{bursts_from}
 
 module _ {S C A B X Y : Type 0} (sends : LinkBox S A) (gets : LinkBox C B) (d : SlotDisk X)
     (e : SlotDisk Y) (side : Side) (waits : Waits) where
@@ -186,73 +181,4 @@ module _ {S C A B X Y : Type 0} (sends : LinkBox S A) (gets : LinkBox C B) (d : 
               ∙ ap (λ l. gated side waits at_rest (on_wires 1 (other_line gets.walking got_setup
               (hears (to_link steps) (link_wires steps)))) l) (sym at_once))));
         };
-      }
-
-  -- ---- what the steps noted
-
-  sealed-are : (steps : Steps) → notes_sealed (turns steps) ≡ map (λ s. s.step.sealed) steps
-  sealed-are [] = refl
-  sealed-are (s ∷ steps) = ap (λ l. s.step.sealed ∷ l) (sealed-are steps)
-
-  checked-are : (steps : Steps) → notes_checked (turns steps) ≡ map (λ s. s.step.checked) steps
-  checked-are [] = refl
-  checked-are (s ∷ steps) = ap (λ l. s.step.checked ∷ l) (checked-are steps)
-
-  -- the bursts that are kept back are among those that the receiver decided one step before
-  held-are : (n : ℕ) (old new : EndState S C X Y) (steps : Steps)
-      → TakesSteps sends gets d e side waits old steps new
-      → steps_held n steps ≡ held_steps side waits n old.gate
-      (take (length steps) (old.for_device ∷ for_device steps))
-      (hears (to_device steps) (device_wires steps))
-  held-are n old new [] taken = refl
-  held-are n old new (s ∷ steps) taken =
-      let next : EndState S C X Y = taken.0 in
-      let first : TakesStep sends gets d e side waits old s next = taken.1 in
-      let h : Tick = heard s.to_device s.device_wires in
-      let hs : List Tick = hears (to_device steps) (device_wires steps) in
-      let rest = held-are (suc n) next new steps taken.2 in
-      ap (λ b. (if b then n ∷ [] else []) ++ steps_held (suc n) steps) first.held_is
-      ∙ ap (λ l. (if holds_back side waits old.gate old.for_device then n ∷ [] else []) ++ l)
-      (rest
-      ∙ (ap (λ g. held_steps side waits (suc n) g
-      (take (length steps) (next.for_device ∷ for_device steps)) hs) first.gate_is
-      ∙ ap (λ t. held_steps side waits (suc n) (gate_after side waits old.gate old.for_device h)
-      (take (length steps) (t ∷ for_device steps)) hs) first.made))
-
-  pub notes-steps : OutgoingApart → IncomingApart
-      → (old new : EndState S C X Y) (steps : Steps) (sent_setup got_setup : Setup)
-      → TakesSteps sends gets d e side waits old steps new
-      → old.gate ≡ at_rest → old.for_device ≡ Silent
-      → sends.stands old.ways.outgoing.line_box (journal_floor old.ways.outgoing.journal) sent_setup
-      []
-      → gets.stands old.ways.incoming.line_box (journal_floor old.ways.incoming.journal) got_setup []
-      → NotesSteps sends gets side waits sent_setup got_setup steps
-  unfolding bursts_from
-  notes-steps outgoing incoming old new steps sent_setup got_setup taken gate_is device_silent
-      sent_stands got_stands =
-      let out = outgoing old.ways new.ways (turns steps) (turns-are old new steps taken) sent_setup []
-      sent_stands in
-      let into = incoming old.ways new.ways (turns steps) (turns-are old new steps taken) got_setup []
-      got_stands in
-      let hs : List Tick = hears (to_device steps) (device_wires steps) in
-      let k : ℕ = length steps in
-      let devices : for_device steps
-      ≡ other_line gets.walking got_setup (hears (to_link steps) (link_wires steps)) =
-      sym (made-device steps) ∙ (sym into.answers_are
-      ∙ ap (other_line gets.walking got_setup) (from-link steps)) in
-      record {
-        sealed = sym (ap (notes_from 0) (sealed-are steps)) ∙ (sym out.notes_are
-            ∙ ap (λ l. told_notes sends.walking.brief (full_notes sends.walking sent_setup l))
-            (from-device steps));
-        checked = sym (ap (notes_from 0) (checked-are steps)) ∙ (sym into.notes_are
-            ∙ ap (λ l. told_notes gets.walking.brief (full_notes gets.walking got_setup l))
-            (from-link steps));
-        held = held-are 0 old new steps taken
-            ∙ (ap (λ x. held_steps side waits 0 x (take k (old.for_device ∷ for_device steps)) hs)
-            gate_is
-            ∙ (ap (λ t. held_steps side waits 0 at_rest (take k (t ∷ for_device steps)) hs)
-            device_silent
-            ∙ ap (λ l. held_steps side waits 0 at_rest l hs)
-            (sym (later-one (for_device steps) steps (length-map steps (λ s. s.step.device)))
-            ∙ ap (on_wires 1) devices)));
       }

@@ -1,8 +1,7 @@
 -- What a two-wire box consists of, and with which ticks it drives both pairs of wires now.
-use Rattle.std.specs.Prelude.{Bool}
 use Rattle.yasir_ticks.specs.declared.tick.Tick.{Tick}
 use Rattle.duplex_box.specs.declared.pair.BoxPair.{BoxPair}
-use Rattle.two_wire.specs.Gate.{gate_state, gate_side, gate_waits, lets, let_through, holds_back}
+use Rattle.two_wire.specs.Gate.{gate_state, gate_side, gate_waits, lets, let_through}
 use Rattle.two_wire.specs.declared.gate.Gate.{Gate}
 use Rattle.two_wire_box.specs.declared.end_box.TwoWire.{TwoWire}
 
@@ -23,8 +22,3 @@ link_now value = value.for_link
 abbrev pub device_now : {S C : Type 0} → TwoWire S C → Tick
 device_now value = let_through value.for_device
     (lets (gate_side value.gate) (gate_waits value.gate) (gate_state value.gate))
-
--- whether a burst would begin now that the gate keeps back
-abbrev pub holds_now : {S C : Type 0} → TwoWire S C → Bool
-holds_now value = holds_back (gate_side value.gate) (gate_waits value.gate) (gate_state value.gate)
-    value.for_device

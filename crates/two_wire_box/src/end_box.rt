@@ -32,7 +32,6 @@ impl<S: LinkBox, C: LinkBox> TwoWire<S, C> {
     ghost use Rattle.two_wire.specs.Gate.{at_rest, gate_after};
     ghost use Rattle.two_wire.specs.Wires.{heard};
     ghost use Rattle.two_wire_box.specs.Ends.{pair_of, gate_of, for_device, link_now, device_now};
-    ghost use Rattle.two_wire_box.specs.Ends.{holds_now};
 
     /// Returns a box that has taken no tick, for a key of any length, the line's direction in which
     /// its device sends, and the side for which it speaks to its device. For so long is
@@ -93,14 +92,6 @@ impl<S: LinkBox, C: LinkBox> TwoWire<S, C> {
         ensures { result ≡ link_now self.now }
     {
         self.for_link
-    }
-
-    /// Returns whether a burst of the receiver would begin now on the wires to the device, and the gate
-    /// keeps it back.
-    pub fn holds_now(&self) -> bool
-        ensures { result ≡ holds_now self.now }
-    {
-        self.gate.holds(self.for_device)
     }
 
     /// Takes what was on both pairs of wires in the tick in which the box drove them with

@@ -1,11 +1,11 @@
-//! The law of the steps of a two-wire box.
+//! The laws of the steps of a two-wire box.
 ghost use Rattle.std.specs.Prelude.{◌≡◌, ℕ, List, []};
 ghost use Rattle.link_format.specs.Setup.{Setup};
 ghost use Rattle.sequence_journal.specs.Journal.{journal_floor};
 ghost use Rattle.two_wire.specs.Gate.{at_rest};
 ghost use Rattle.two_wire.specs.declared.gate.Side.{Side};
 ghost use Rattle.two_wire.specs.declared.gate.Waits.{Waits};
-ghost use Rattle.two_wire_box.specs.Lines.{WireStep, EndState, TakesSteps, MakesWires, NotesSteps};
+ghost use Rattle.two_wire_box.specs.Lines.{WireStep, EndState, TakesSteps, MakesWires};
 ghost use Rattle.two_wire_box.specs.Steady.{HasDriven};
 ghost use Rattle.two_wire_box.specs.declared.steady_end.SteadyEnd.{SteadyEnd};
 ghost use Rattle.yasir_ticks.specs.declared.tick.Tick.TheVariants.{Silent};
@@ -37,14 +37,4 @@ pub fn steady_ends_make_the_wires<S: LinkBox, C: LinkBox>()
         → MakesWires S.LinkBox C.LinkBox side waits sent_setup got_setup steps }
 {
     steps_make_the_wires::<S, C, SteadySlots, SteadySlots>();
-}
-
-/// A law of what such a box notes, step by step, and of the bursts that its gate keeps back.
-pub fn steady_ends_note_their_steps<S: LinkBox, C: LinkBox>()
-    ensures { (side : Side) (waits : Waits) (sent_setup got_setup : Setup) (value : SteadyEnd S C)
-        (steps : List (WireStep S.Note C.Note))
-        → HasDriven S.LinkBox C.LinkBox side waits sent_setup got_setup value steps
-        → NotesSteps S.LinkBox C.LinkBox side waits sent_setup got_setup steps }
-{
-    directions_are_apart::<S, C, SteadySlots, SteadySlots>();
 }

@@ -14,5 +14,5 @@ mod laws;
 mod steady_end;
 
 pub use end_box::TwoWire;
-pub use laws::{steady_ends_make_the_wires, steady_ends_note_their_steps, steps_make_the_wires};
+pub use laws::{steady_ends_make_the_wires, steps_make_the_wires};
 pub use steady_end::SteadyEnd;

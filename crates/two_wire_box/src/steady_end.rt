@@ -42,7 +42,7 @@ impl<S: LinkBox, C: LinkBox> SteadyEnd<S, C> {
     ghost use Rattle.link_format.specs.Directions.{opposite_of};
     ghost use Rattle.two_wire.specs.declared.gate.Side.{Side};
     ghost use Rattle.two_wire.specs.declared.gate.Waits.{Waits};
-    ghost use Rattle.two_wire_box.specs.Ends.{device_now, link_now, holds_now};
+    ghost use Rattle.two_wire_box.specs.Ends.{device_now, link_now};
     ghost use Rattle.two_wire_box.specs.Lines.{WireStep, MakesWires};
     ghost use Rattle.two_wire_box.specs.Steady.{AreLinksOfLine, MayGoOn, HasDriven};
     ghost use Rattle.two_wire_box.specs.Steady.{steady_ticks};
@@ -95,14 +95,6 @@ impl<S: LinkBox, C: LinkBox> SteadyEnd<S, C> {
         self.wires.link_tick()
     }
 
-    /// Returns whether a burst of the receiver would begin now on the wires to the device, and the gate
-    /// keeps it back.
-    pub fn holds_now(&self) -> bool
-        ensures { result ≡ holds_now self.now.wires }
-    {
-        self.wires.holds_now()
-    }
-
     /// Takes what was on both pairs of wires in the tick in which the box drove them with
     /// `device_tick` and `link_tick`, with or without an echo of that. Fewer than `MAX_TICKS` ticks
     /// were taken before.
@@ -126,7 +118,6 @@ impl<S: LinkBox, C: LinkBox> SteadyEnd<S, C> {
               link_wires = link_wires;
               to_device = device_now self.old.wires;
               to_link = link_now self.old.wires;
-              held = holds_now self.old.wires;
               step = result;
             } ∷ []) }
     {

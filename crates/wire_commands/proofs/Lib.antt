@@ -1,5 +1,10 @@
-pub mod NotedSteps
-pub mod Filling
-pub mod TextOf
-pub mod Made
 pub mod BothParts
+pub mod TextOf
+pub mod Filling
+pub mod Hearing
+pub mod Gates
+pub mod Ahead
+pub mod NotedSteps
+pub mod Passing
+pub mod Taking
+pub mod Made

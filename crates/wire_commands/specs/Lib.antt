@@ -1,3 +1,5 @@
 pub mod WireLines
 pub mod Making
 pub mod TickLines
+pub mod Hearing
+pub mod WireBox

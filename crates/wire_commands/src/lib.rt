@@ -6,8 +6,10 @@
 //!     let status = print_both(&recorded, &mut out, &mut log);
 #![tactic(auto)]
 
+mod heard;
 mod recording;
 mod tick_lines;
+mod wire_box;
 mod wire_lines;
 
 pub use recording::record_wires;

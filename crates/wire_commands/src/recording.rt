@@ -2,11 +2,9 @@
 //! texts that the box makes of them.
 ghost use Rattle.std.specs.Prelude.{◌≡◌, ◌+◌, ◌≤◌, length, IfOk};
 ghost use Rattle.yasir_ticks.specs.declared.TheConstants.{MAX_TICKS};
-ghost use Rattle.link_format.specs.Directions.{opposite_of};
 ghost use Rattle.tick_drive.specs.Input.{IsReadCause, is_read_answer, max_ticks};
 ghost use Rattle.line_commands.specs.KeptBox.{timed_of};
 ghost use Rattle.line_commands.specs.Recording.{BothTexts, HoldsTexts, RecordsBoth};
-ghost use Rattle.two_wire_box.specs.Steady.{AreLinksOfLine};
 ghost use Rattle.wire_commands.specs.WireLines.{wire_texts_with};
 
 use crate::wire_lines::{WireEnd, WireLines};
@@ -31,8 +29,6 @@ fn drive_wires<S: LineBox, C: LineBox>(
 ) -> Result<Recorded, NoMemory>
     requires outgoing { S.widths_fit }
     requires incoming { C.widths_fit }
-    requires links { AreLinksOfLine at.outgoing (S.link_in at.outgoing)
-        (C.link_in (opposite_of at.outgoing)) }
     requires room { length device.now + length link.now ≤ max_ticks }
     ensures { IfOk result (λ recorded. (texts : BothTexts) × HoldsTexts recorded texts
         × wire_texts_with (timed_of S.walking S.line_of) (timed_of C.walking C.line_of) at.side
@@ -43,7 +39,7 @@ fn drive_wires<S: LineBox, C: LineBox>(
     let Ok(()) = lines.take_all(device, link, steps) else {
         return Err(NoMemory);
     };
-    match lines.finish(alloc) {
+    match lines.finish() {
         Ok(recorded) => Ok(recorded),
         Err(NoMemory) => Err(NoMemory),
     }
@@ -66,10 +62,6 @@ pub fn record_wires<S: LineBox, C: LineBox, I: Source>(
     requires outgoing { S.widths_fit }
     /// The widths of the receiver are ones that it can be made with.
     requires incoming { C.widths_fit }
-    /// The links of both boxes are those of one line, the transmitter's in this direction and the
-    /// receiver's in the other one.
-    requires links { AreLinksOfLine at.outgoing (S.link_in at.outgoing)
-        (C.link_in (opposite_of at.outgoing)) }
     /// If the input ends whole, with one mark, the texts are what a two-wire box with this gate
     /// drives the link and its device's wires with, and its notes, for these wires with the silence
     /// that follows. Otherwise it is said how the input ended and what was taken of it; it is

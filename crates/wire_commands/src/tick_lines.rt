@@ -1,10 +1,11 @@
-//! The canonical text of ticks that are kept in memory.
-ghost use Rattle.std.specs.Prelude.{◌≡◌, List, ◌∷◌, ◌++◌, [], IfOk, OnOk};
+//! The canonical text of ticks, as it grows in memory.
+ghost use Rattle.std.specs.Prelude.{◌≡◌, ◌<◌, List, ◌∷◌, ◌++◌, [], IfOk, OnOk};
+ghost use Rattle.yasir_ticks.specs.Ticks.{silent};
 ghost use Rattle.yasir_ticks.specs.CanonicalText.{canonical_text};
+ghost use Rattle.yasir_ticks.specs.TickRun.{run_ticks};
 ghost use Rattle.yasir_ticks.specs.declared.tick.Tick.{Tick};
-ghost use Rattle.line_texts.specs.Adding.{TextHasRoom, TextAdds};
-ghost use Rattle.line_texts.specs.Texts.{waiting_in};
-ghost use Rattle.wire_commands.specs.TickLines.{IsOnItsWay};
+ghost use Rattle.line_texts.specs.Adding.{IsShort};
+ghost use Rattle.wire_commands.specs.TickLines.{HasWritten, HasRoom};
 
 use line_commands::MemoryText;
 use line_texts::Texts;
@@ -12,56 +13,89 @@ use std::alloc::Global;
 use yasir_io::{Failed, NoMemory};
 use yasir_ticks::{Tick, TickRun};
 
-// Adds a tick to the text.
-fn join_tick(texts: &mut Texts, tick: Tick)
-    requires { TextHasRoom texts.old }
-    ensures { TextAdds (waiting_in texts.old) (waiting_in texts.new) (tick ∷ []) [] }
-{
-    match tick {
-        Tick::Silent => texts.add_run(TickRun::Silence(1)),
-        Tick::Byte(byte) => texts.add_run(TickRun::Bytes(&[byte])),
-    }
+/// The text of ticks, in memory.
+#[derive(Drop)]
+pub(crate) struct TickLines {
+    texts: Texts,
+    text: MemoryText,
+    // the texts' second sink, which gets nothing
+    log: MemoryText,
 }
 
-// Adds a tick to the text, and hands on what waits if there is no room for another one. `log` is the
-// texts' second sink, which gets nothing.
-fn add_tick(
-    texts: &mut Texts,
-    text: &mut MemoryText,
-    log: &mut MemoryText,
-    tick: Tick,
-) -> Result<(), NoMemory>
-    requires { TextHasRoom texts.old }
-    ensures room { OnOk result (TextHasRoom texts.new) }
-    ensures goes { OnOk result ((line : List Tick) → IsOnItsWay texts.old text.old log.old line
-        → IsOnItsWay texts.new text.new log.new (line ++ tick ∷ [])) }
-{
-    join_tick(texts, tick);
-    if texts.has_room() {
-        return Ok(());
-    }
-    match texts.hand_out(text, log) {
-        Ok(()) => Ok(()),
-        Err(Failed) => Err(NoMemory),
-    }
-}
-
-/// Returns the canonical text of these ticks.
-pub(crate) fn text_of(alloc: Global, ticks: &[Tick]) -> Result<Vec<u8>, NoMemory>
-    ensures { IfOk result (λ text. text.items ≡ canonical_text ticks.now) }
-{
-    let mut texts = Texts::new();
-    let mut text = MemoryText::new(alloc);
-    let mut log = MemoryText::new(alloc);
-    let mut count = 0;
-    while count < ticks.len() {
-        match add_tick(&mut texts, &mut text, &mut log, ticks[count]) {
-            Ok(()) => count += 1,
-            Err(NoMemory) => return Err(NoMemory),
+impl TickLines {
+    /// Returns the text of no tick.
+    pub(crate) fn new(alloc: Global) -> TickLines
+        ensures room { HasRoom result }
+        ensures none { HasWritten result [] }
+    {
+        TickLines {
+            texts: Texts::new(),
+            text: MemoryText::new(alloc),
+            log: MemoryText::new(alloc),
         }
     }
-    match texts.finish(&mut text, &mut log) {
-        Ok(()) => Ok(text.bytes),
-        Err(Failed) => Err(NoMemory),
+
+    /// Adds a short run of ticks. What waits is handed on if there is no room for another one.
+    pub(crate) fn add(&mut self, run: TickRun<'_>) -> Result<(), NoMemory>
+        requires room { HasRoom self.old }
+        requires short { IsShort (run_ticks run) }
+        ensures room { OnOk result (HasRoom self.new) }
+        ensures written { OnOk result ((line : List Tick) → HasWritten self.old line
+            → HasWritten self.new (line ++ run_ticks run.entry)) }
+    {
+        self.texts.add_run(run);
+        if self.texts.has_room() {
+            return Ok(());
+        }
+        match self.texts.hand_out(&mut self.text, &mut self.log) {
+            Ok(()) => Ok(()),
+            Err(Failed) => Err(NoMemory),
+        }
+    }
+
+    /// Adds a tick.
+    pub(crate) fn add_tick(&mut self, tick: Tick) -> Result<(), NoMemory>
+        requires room { HasRoom self.old }
+        ensures room { OnOk result (HasRoom self.new) }
+        ensures written { OnOk result ((line : List Tick) → HasWritten self.old line
+            → HasWritten self.new (line ++ tick ∷ [])) }
+    {
+        match tick {
+            Tick::Silent => self.add(TickRun::Silence(1)),
+            Tick::Byte(byte) => self.add(TickRun::Bytes(&[byte])),
+        }
+    }
+
+    /// Adds a tick and a short run behind it, which may have no tick.
+    pub(crate) fn add_first(&mut self, first: Tick, rest: TickRun<'_>) -> Result<(), NoMemory>
+        requires room { HasRoom self.old }
+        requires short { IsShort (run_ticks rest) }
+        ensures room { OnOk result (HasRoom self.new) }
+        ensures written { OnOk result ((line : List Tick) → HasWritten self.old line
+            → HasWritten self.new (line ++ first ∷ run_ticks rest.entry)) }
+    {
+        let Ok(()) = self.add_tick(first) else {
+            return Err(NoMemory);
+        };
+        if rest.is_empty() {
+            return Ok(());
+        }
+        self.add(rest)
+    }
+
+    /// Ends the text, and returns it.
+    pub(crate) fn finish(self) -> Result<Vec<u8>, NoMemory>
+        ensures { IfOk result (λ text. (line : List Tick) → HasWritten self line
+            → text.items ≡ canonical_text line) }
+    {
+        let TickLines {
+            texts,
+            mut text,
+            mut log,
+        } = self;
+        match texts.finish(&mut text, &mut log) {
+            Ok(()) => Ok(text.bytes),
+            Err(Failed) => Err(NoMemory),
+        }
     }
 }

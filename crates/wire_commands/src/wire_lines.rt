@@ -1,6 +1,8 @@
 //! A two-wire box, and what it has made of both pairs of wires, kept in memory.
-ghost use Rattle.std.specs.Prelude.{◌≡◌, ◌+◌, ◌-◌, ◌<◌, ◌≤◌, ℕ, List, [], ◌∷◌, ◌++◌, length, take};
+ghost use Rattle.std.specs.Prelude.{◌≡◌, ◌+◌, ◌<◌, ◌≤◌, ℕ, List, [], ◌∷◌, ◌++◌, length, take, drop};
 ghost use Rattle.std.specs.Prelude.{OnOk, IfOk, if◌then◌else◌};
+ghost use Rattle.yasir_ticks.specs.Ticks.{silent};
+ghost use Rattle.yasir_ticks.specs.TickRun.{run_ticks};
 ghost use Rattle.yasir_ticks.specs.declared.tick.Tick.{Tick};
 ghost use Rattle.yasir_ticks.specs.declared.TheConstants.{MAX_TICKS};
 ghost use Rattle.link_format.specs.Setup.{Setup, setup_of};
@@ -8,18 +10,23 @@ ghost use Rattle.link_format.specs.Directions.{opposite_of};
 ghost use Rattle.line_commands.specs.Boxes.{line_of_note};
 ghost use Rattle.line_commands.specs.KeptBox.{timed_of};
 ghost use Rattle.line_commands.specs.Recording.{BothTexts, HoldsTexts, filled_recording};
-ghost use Rattle.two_wire_box.specs.Steady.{AreLinksOfLine};
+ghost use Rattle.two_wire.specs.Gate.{gate_state, gate_side, gate_waits, gate_ticks};
 ghost use Rattle.wire_commands.specs.WireLines.{held_line, AreTextsOfWires};
-ghost use Rattle.wire_commands.specs.Making.{HasMade, IsAble, ticks_made};
+ghost use Rattle.wire_commands.specs.Hearing.{gate_through};
+ghost use Rattle.wire_commands.specs.WireBox.{next_of, IsServed, ticks_gone, CatchesUp};
+ghost use Rattle.wire_commands.specs.Making.{HasMade, IsAble, MayPass, MakesSome, ticks_made};
 
-use crate::tick_lines::text_of;
+use crate::heard::{heard_run, tick_at};
+use crate::tick_lines::TickLines;
+use crate::wire_box::WireBox;
+use frame_ending::RunBytes;
 use line_commands::{LineBox, Recorded, placed_line};
+use line_texts::answer_run;
 use link_format::Dir;
 use std::alloc::Global;
-use two_wire::{Side, Waits};
-use two_wire_box::{SteadyEnd, steady_ends_make_the_wires, steady_ends_note_their_steps};
+use two_wire::{Gate, Side, Waits, hear};
 use yasir_io::NoMemory;
-use yasir_ticks::{MAX_TICKS, Tick};
+use yasir_ticks::{MAX_TICKS, Tick, TickRun};
 
 /// Where a box stands on a two-wire line: in which direction its device sends, for which side it
 /// speaks to its device, and how long is waited there.
@@ -30,25 +37,17 @@ pub struct WireEnd {
     pub waits: Waits,
 }
 
-/// A two-wire box over new journals that never fail, the ticks with which it has driven both pairs
-/// of wires, and the lines of what it has noted.
+/// A two-wire box over new journals that never fail, the texts of the ticks with which it has driven
+/// both pairs of wires, and the lines of what it has noted.
 #[derive(Drop)]
 pub(crate) struct WireLines<S, C> {
-    end: SteadyEnd<S, C>,
-    to_link: Vec<Tick>,
-    to_device: Vec<Tick>,
+    sender: WireBox<S>,
+    receiver: WireBox<C>,
+    gate: Gate,
+    link_text: TickLines,
+    device_text: TickLines,
     notes: Vec<u8>,
     ticks: u64,
-}
-
-// Adds a tick at the end of a list.
-fn push_tick(list: &mut Vec<Tick>, tick: Tick) -> Result<(), NoMemory>
-    ensures { OnOk result (list.new.items ≡ list.old.items ++ tick ∷ []) }
-{
-    match list.push(tick) {
-        Ok(()) => Ok(()),
-        Err(_) => Err(NoMemory),
-    }
 }
 
 // Adds the line of a note, if there is one.
@@ -80,73 +79,152 @@ fn add_held(notes: &mut Vec<u8>, held: bool, tick: u64) -> Result<(), NoMemory>
     }
 }
 
-// Returns the tick at a place of a recording, which is filled with silence.
-fn tick_at(line: &[Tick], place: usize) -> Tick
-    ensures { (steps : ℕ) → place < steps → take (place + 1) (filled_recording steps line.now)
-        ≡ take place (filled_recording steps line.now) ++ result ∷ [] }
+// Adds the lines of the notes of a step, and of a burst that is kept back in it.
+fn add_notes<S: LineBox, C: LineBox>(
+    notes: &mut Vec<u8>,
+    sealed: Option<S::Note>,
+    checked: Option<C::Note>,
+    held: bool,
+    tick: u64,
+) -> Result<(), NoMemory>
+    ensures { OnOk result (notes.new.items ≡ ((notes.old.items ++ line_of_note S.line_of sealed)
+        ++ line_of_note C.line_of checked) ++ (if held then held_line tick else [])) }
 {
-    if place < line.len() {
-        line[place]
-    } else {
-        Tick::Silent
+    let Ok(()) = add_note::<S>(notes, sealed) else {
+        return Err(NoMemory);
+    };
+    let Ok(()) = add_note::<C>(notes, checked) else {
+        return Err(NoMemory);
+    };
+    add_held(notes, held, tick)
+}
+
+// The ticks of a line behind a place.
+fn behind(line: &[Tick], place: usize) -> &[Tick]
+    ensures { result.now ≡ drop place line.now }
+{
+    &line[place.min(line.len())..]
+}
+
+// Lets a box be ahead of its wires, if it isn't: it takes what its port surely hears of these ticks,
+// if it drives the wires with `own` and then with `next`. Returns the note of the first tick.
+#[inline(always)]
+fn catch_up<B: LineBox>(
+    wire_box: &mut WireBox<B>,
+    own: Tick,
+    next: TickRun<'_>,
+    line: &[Tick],
+    left: usize,
+) -> Option<B::Note>
+    requires some { 0 < left }
+    requires served { IsServed B.LinkBox wire_box.old }
+    requires within { length (next_of wire_box.old) ≤ left }
+    requires room { ticks_gone B.LinkBox wire_box.old + left ≤ MAX_TICKS }
+    ensures { CatchesUp B.LinkBox wire_box.old wire_box.new (own ∷ run_ticks next.entry)
+        (filled_recording left line.now) left result }
+{
+    if !wire_box.next().is_empty() {
+        return None;
+    }
+    let mut bytes = RunBytes::new();
+    let count = heard_run(own, next, line, left, &mut bytes);
+    wire_box.take(answer_run(count, bytes.as_slice()))
+}
+
+// Returns how many ticks may go by now, if both boxes are ahead.
+fn ready<S: LineBox, C: LineBox>(sender: &WireBox<S>, receiver: &WireBox<C>) -> u32
+    requires sent { 0 < length (next_of sender.now) }
+    requires got { 0 < length (next_of receiver.now) }
+    requires few { length (next_of sender.now) ≤ 256 }
+    ensures { MayPass sender.now receiver.now result }
+{
+    let silent = receiver.silence();
+    if silent == 0 {
+        return 1;
+    }
+    match receiver.now() {
+        Tick::Silent => silent.min(sender.next().len() as u32),
+        Tick::Byte(_) => 1,
+    }
+}
+
+// Lets a gate go on while its receiver has silent ticks, this many, and these are on the wires.
+fn wait(gate: &mut Gate, device: &[Tick], count: u32)
+    requires room { gate_ticks gate.old + count ≤ MAX_TICKS }
+    ensures side { gate_side gate.new ≡ gate_side gate.old }
+    ensures waits { gate_waits gate.new ≡ gate_waits gate.old }
+    ensures ticks { gate_ticks gate.new ≡ gate_ticks gate.old + count }
+    ensures state { (left : ℕ) → count ≤ left → gate_state gate.new
+        ≡ gate_through (gate_side gate.old) (gate_waits gate.old) (gate_state gate.old)
+        (silent count) (take count (filled_recording left device.now)) }
+{
+    let mut done: u32 = 0;
+    while done < count {
+        gate.follow(Tick::Silent, tick_at(device, done as usize));
+        done += 1;
     }
 }
 
 impl<S: LineBox, C: LineBox> WireLines<S, C> {
-    /// Returns a box that has taken no tick.
     pub(crate) fn new(alloc: Global, key: &[u8], at: WireEnd) -> WireLines<S, C>
         requires outgoing { S.widths_fit }
         requires incoming { C.widths_fit }
-        requires links { AreLinksOfLine at.outgoing (S.link_in at.outgoing)
-            (C.link_in (opposite_of at.outgoing)) }
         ensures none { ticks_made result ≡ 0 }
-        ensures able { IsAble S.LinkBox C.LinkBox result }
-        ensures made { HasMade S.LinkBox S.line_of C.LinkBox C.line_of at.side at.waits
+        ensures able { (left : ℕ) → IsAble S.LinkBox C.LinkBox result left }
+        ensures made { (device_rest link_rest : List Tick)
+            → HasMade S.LinkBox S.line_of C.LinkBox C.line_of at.side at.waits
             (setup_of key.now at.outgoing 0) (setup_of key.now (opposite_of at.outgoing) 0)
-            result [] [] }
+            result [] [] device_rest link_rest }
     {
         WireLines {
-            end: SteadyEnd::new(key, at.outgoing, at.side, at.waits),
-            to_link: Vec::new(alloc),
-            to_device: Vec::new(alloc),
+            sender: WireBox::new(key, at.outgoing),
+            receiver: WireBox::new(key, at.outgoing.opposite()),
+            gate: Gate::new(at.side, at.waits),
+            link_text: TickLines::new(alloc),
+            device_text: TickLines::new(alloc),
             notes: Vec::new(alloc),
             ticks: 0,
         }
     }
 
-    // Takes what was on both pairs of wires in one tick.
-    fn take(&mut self, device_wires: Tick, link_wires: Tick) -> Result<(), NoMemory>
-        requires able { IsAble S.LinkBox C.LinkBox self.old }
-        requires room { ticks_made self.old < MAX_TICKS }
-        ensures able { OnOk result (IsAble S.LinkBox C.LinkBox self.new) }
-        ensures counted { OnOk result (ticks_made self.new ≡ ticks_made self.old + 1) }
-        ensures made { OnOk result ((side : Side) (waits : Waits) (sent_setup got_setup : Setup)
-            (device link : List Tick)
-            → HasMade S.LinkBox S.line_of C.LinkBox C.line_of side waits sent_setup got_setup
-            self.old device link
-            → HasMade S.LinkBox S.line_of C.LinkBox C.line_of side waits sent_setup got_setup
-            self.new (device ++ device_wires ∷ []) (link ++ link_wires ∷ [])) }
+    // Lets ticks go by: as many as both boxes have taken, once each of them is ahead. Returns how
+    // many.
+    fn take_some(&mut self, device: &[Tick], link: &[Tick], left: usize) -> Result<usize, NoMemory>
+        requires some { 0 < left }
+        requires room { ticks_made self.old + left ≤ MAX_TICKS }
+        requires able { IsAble S.LinkBox C.LinkBox self.old left }
+        ensures { IfOk result (λ n. MakesSome S.LinkBox S.line_of C.LinkBox C.line_of self.old
+            self.new (filled_recording left device.now) (filled_recording left link.now) left n) }
     {
-        let (to_device, to_link) = (self.end.device_tick(), self.end.link_tick());
-        let held = self.end.holds_now();
-        let step = self.end.step(device_wires, link_wires);
-        let Ok(()) = push_tick(&mut self.to_link, to_link) else {
+        let for_device = self.receiver.now();
+        let to_device = self.gate.pass(for_device);
+        let silence = TickRun::Silence(self.receiver.silence());
+        let sealed = catch_up(&mut self.sender, to_device, silence, device, left);
+        let now = self.sender.now();
+        let next = self.sender.next();
+        let checked = catch_up(&mut self.receiver, now, next, link, left);
+        let held = self.gate.holds(for_device);
+        let Ok(()) = add_notes::<S, C>(&mut self.notes, sealed, checked, held, self.ticks) else {
             return Err(NoMemory);
         };
-        let Ok(()) = push_tick(&mut self.to_device, to_device) else {
+        let count = ready(&self.sender, &self.receiver);
+        self.gate
+            .follow(for_device, hear(to_device, tick_at(device, 0)));
+        wait(&mut self.gate, behind(device, 1), count - 1);
+        let Ok(()) = self
+            .device_text
+            .add_first(to_device, TickRun::Silence(count - 1))
+        else {
             return Err(NoMemory);
         };
-        let Ok(()) = add_note::<S>(&mut self.notes, step.sealed) else {
+        let sent = self.sender.next().front((count - 1) as usize);
+        let Ok(()) = self.link_text.add_first(self.sender.now(), sent) else {
             return Err(NoMemory);
         };
-        let Ok(()) = add_note::<C>(&mut self.notes, step.checked) else {
-            return Err(NoMemory);
-        };
-        let Ok(()) = add_held(&mut self.notes, held, self.ticks) else {
-            return Err(NoMemory);
-        };
-        self.ticks += 1;
-        Ok(())
+        self.sender.leave(count);
+        self.receiver.leave(count);
+        self.ticks += u64::from(count);
+        Ok(count as usize)
     }
 
     /// Takes both recordings, filled with silence to this many ticks.
@@ -157,20 +235,21 @@ impl<S: LineBox, C: LineBox> WireLines<S, C> {
         steps: usize,
     ) -> Result<(), NoMemory>
         requires none { ticks_made self.old ≡ 0 }
-        requires able { IsAble S.LinkBox C.LinkBox self.old }
-        requires room { steps ≤ MAX_TICKS }
+        requires few { steps ≤ MAX_TICKS }
+        requires able { IsAble S.LinkBox C.LinkBox self.old steps }
         ensures { OnOk result ((side : Side) (waits : Waits) (sent_setup got_setup : Setup)
             → HasMade S.LinkBox S.line_of C.LinkBox C.line_of side waits sent_setup got_setup
-            self.old [] []
+            self.old [] [] (filled_recording steps device.now) (filled_recording steps link.now)
             → HasMade S.LinkBox S.line_of C.LinkBox C.line_of side waits sent_setup got_setup
             self.new (take steps (filled_recording steps device.now))
-            (take steps (filled_recording steps link.now))) }
+            (take steps (filled_recording steps link.now))
+            (drop steps (filled_recording steps device.now))
+            (drop steps (filled_recording steps link.now))) }
     {
         let mut count = 0;
         while count < steps {
-            let (device_wires, link_wires) = (tick_at(device, count), tick_at(link, count));
-            match self.take(device_wires, link_wires) {
-                Ok(()) => count += 1,
+            match self.take_some(behind(device, count), behind(link, count), steps - count) {
+                Ok(some) => count += some,
                 Err(NoMemory) => return Err(NoMemory),
             }
         }
@@ -178,22 +257,26 @@ impl<S: LineBox, C: LineBox> WireLines<S, C> {
     }
 
     /// Returns the texts of what the box has driven its wires with, and the lines of its notes.
-    pub(crate) fn finish(self, alloc: Global) -> Result<Recorded, NoMemory>
+    pub(crate) fn finish(self) -> Result<Recorded, NoMemory>
         ensures { IfOk result (λ recorded. (side : Side) (waits : Waits)
             (sent_setup got_setup : Setup) (device link : List Tick)
-            → HasMade S.LinkBox S.line_of C.LinkBox C.line_of side waits sent_setup got_setup
-            self device link
+            → HasMade S.LinkBox S.line_of C.LinkBox C.line_of side waits sent_setup got_setup self
+            device link [] []
             → (texts : BothTexts) × HoldsTexts recorded texts
             × AreTextsOfWires (timed_of S.walking S.line_of sent_setup)
             (timed_of C.walking C.line_of got_setup) side waits device link texts) }
     {
-        steady_ends_make_the_wires::<S, C>();
-        steady_ends_note_their_steps::<S, C>();
-        let Ok(link) = text_of(alloc, self.to_link.as_slice()) else {
+        let WireLines {
+            link_text,
+            device_text,
+            notes,
+            ..
+        } = self;
+        let Ok(link) = link_text.finish() else {
             return Err(NoMemory);
         };
-        match text_of(alloc, self.to_device.as_slice()) {
-            Ok(device) => Ok(Recorded::new(link, device, self.notes)),
+        match device_text.finish() {
+            Ok(device) => Ok(Recorded::new(link, device, notes)),
             Err(NoMemory) => Err(NoMemory),
         }
     }

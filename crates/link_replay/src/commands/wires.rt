@@ -9,8 +9,6 @@ ghost use Rattle.link_replay.specs.declared.words.Command.TheVariants.{TwoWire};
 ghost use Rattle.link_replay.specs.Commands.{HasCauses};
 ghost use Rattle.link_replay.specs.BothLines.{RunsOverBoth, RunsOverBothKeyed};
 ghost use Rattle.link_replay.specs.TwoWireCommand.{DrivesTwoWires, wires_in_dir};
-ghost use Rattle.link_format.specs.Directions.{opposite_of};
-ghost use Rattle.two_wire_box.specs.Steady.{AreLinksOfLine};
 ghost use Rattle.wire_commands.specs.WireLines.{wire_texts_with};
 
 use check_receiver::Checker;
@@ -44,8 +42,6 @@ fn drive_keyed<S: LineBox, C: LineBox, K: Source, I: Source, O: Sink, L: Sink, D
 ) -> Status
     requires outgoing { S.widths_fit }
     requires incoming { C.widths_fit }
-    requires links { AreLinksOfLine at.outgoing (S.link_in at.outgoing)
-        (C.link_in (opposite_of at.outgoing)) }
     ensures drives { RunsOverBoth (wire_texts_with (timed_of S.walking S.line_of)
         (timed_of C.walking C.line_of) at.side at.waits key.now at.outgoing)
         (I.left ends.entry.input.now) (I.left (outside_after ends.exit).input)
@@ -82,8 +78,6 @@ fn drive_with<S: LineBox, C: LineBox, K: Source, I: Source, O: Sink, L: Sink, D:
 ) -> Status
     requires outgoing { S.widths_fit }
     requires incoming { C.widths_fit }
-    requires links { AreLinksOfLine at.outgoing (S.link_in at.outgoing)
-        (C.link_in (opposite_of at.outgoing)) }
     ensures drives { RunsOverBothKeyed K.Source I.Source O.Sink L.Sink
         (wires_in_dir (timed_of S.walking S.line_of) (timed_of C.walking C.line_of) at.outgoing
         at.side at.waits)

@@ -3,7 +3,6 @@ use Rattle.poll_session.proofs.Appending.{beside-and, spoken-and, steps-and}
 use Rattle.poll_session.specs.TurnedEnds.{poll_setup}
 use Rattle.poll_session.specs.declared.turned_end.EndTick.{EndTick}
 use Rattle.std.proofs.Common.{◌∙◌, ◌∷◌, [], ap, arith, length-append, subst, sym, ◌++◌}
-use Rattle.two_wire_box.specs.Ends.{holds_now}
 use Rattle.two_wire.specs.Turns.{after_own, opposite, MayBeDeaf, MaySay}
 use Rattle.poll_session.proofs.turned_end.TurnedEnd.step.Goals as goal
 
@@ -30,13 +29,11 @@ returns-clause-turned g c = λ dir w others deaf turned.
         link_wires = c.args.link;
         to_device = own;
         to_link = c.link_tick-to_link.result;
-        held = holds_now c.args.self.now.wires.wires;
         step = c.step-step.result;
       } ∷ []);
       driven = rw (c.device_tick-to_device.ensures, c.link_tick-to_link.ensures) (c.step-step.ensures.driven side waits
           (poll_setup dir) (poll_setup (opposite_of dir)) turned.steps turned.driven);
-      wires_are = steps-and turned.steps w tick (holds_now c.args.self.now.wires.wires)
-          c.step-step.result turned.wires_are;
+      wires_are = steps-and turned.steps w tick c.step-step.result turned.wires_are;
       long = omega (arith, more, long, c.step-step.ensures.ticks);
       beside = beside-and side waits w others deaf tick turned.beside c.drive-device_wires.ensures
           (subst (λ s. MaySay (opposite side) waits s said) turned.turn_is c.said-said.ensures.may)
