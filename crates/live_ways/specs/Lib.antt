@@ -1,0 +1,11 @@
+pub mod BothDisks
+pub mod WayLoads
+pub mod LineBegins
+pub mod Rests
+pub mod Ends
+pub mod WayEnds
+pub mod WayReading
+pub mod LiveLine
+pub mod Driving
+pub mod WayCommand
+pub mod WayStreams
