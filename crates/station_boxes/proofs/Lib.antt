@@ -8,3 +8,10 @@ pub mod Closing
 pub mod Taking
 pub mod Keeping
 pub mod Owning
+pub mod Anew
+pub mod Joined
+pub mod Parts
+pub mod Begun
+pub mod CheckSteps
+pub mod CheckTurns
+pub mod CheckNotes

@@ -119,6 +119,18 @@ module _ {D : Type 0} (name : ℕ) where
       (λ miss. subst P (sym miss) (λ rest. no-key back rest) none)
       (cases_Bool (has_name one))
 
+  -- A name without a station has the limit as its floor.
+  pub no-floor : (stations : List (Station D)) → has_station (table_of stations) name ≡ false
+      → table_floor LIMIT (table_of stations) name ≡ LIMIT
+  no-floor [] none = refl
+  no-floor (one ∷ back) none =
+      let P : Bool → Type 0 = λ b. (if b then true else has_station (table_of back) name) ≡ false
+      → (if b then journal_floor one.journal else table_floor LIMIT (table_of back) name) ≡ LIMIT in
+      ⊎_elim
+      (λ hit. subst P (sym hit) (λ never. cc) none)
+      (λ miss. subst P (sym miss) (λ rest. no-floor back rest) none)
+      (cases_Bool (has_name one))
+
   module _ (one : Station D) (back : List (Station D)) (named : one.name ≡ name) where
     hit : has_name one ≡ true
     hit = eq-eqb one.name name named

@@ -1,6 +1,6 @@
 -- What a step of a transmitter of several stations returns, and what it does to their journals.
-use Rattle.std.specs.Prelude.{◌≡◌, ℕ, ◌+◌, true, false, List, [], ◌∷◌, ◌++◌, length, Option, All}
-use Rattle.std.specs.Prelude.{Some, None, Result, OnOk, OnErr, IfOk, option_map}
+use Rattle.std.specs.Prelude.{◌≡◌, ℕ, ◌+◌, true, false, List, [], ◌∷◌, ◌++◌, length, Option}
+use Rattle.std.specs.Prelude.{Some, None, Result, option_map}
 use Rattle.yasir_ticks.specs.declared.tick.Tick.{Tick}
 use Rattle.yasir_io.specs.declared.disk.SlotDisk.{Ghosts as SlotDisk}
 use Rattle.frame_ending.specs.Answers.{AnswersTick}
@@ -18,8 +18,8 @@ use Rattle.sequence_journal.specs.declared.link.LinkId.{LinkId}
 use Rattle.stations.specs.Shared.{SharedState}
 use Rattle.sequence_journal.specs.declared.numbers.TheConstants.{LIMIT}
 use Rattle.stations.specs.Table.{StationEntry, has_station, table_floor}
-use Rattle.station_boxes.specs.Committing.{HasCommittedAt, HasFailedAt}
-use Rattle.station_boxes.specs.Served.{table_of, FitsOf, ServesOf}
+use Rattle.station_boxes.specs.Committing.{HasCommittedAt, HasFailedAt, KeepsBy}
+use Rattle.station_boxes.specs.Served.{table_of}
 use Rattle.station_boxes.specs.declared.note.StationNote.{StationNote}
 use Rattle.station_boxes.specs.declared.note.StationNote.TheVariants.{Sealed, Unsealed}
 use Rattle.station_boxes.specs.declared.note.UnsealedStationWhy.{UnsealedStationWhy}
@@ -78,10 +78,6 @@ module _ {D : Type 0} (d : SlotDisk D) (old new : List (Served D)) where
   CommitsNoted None = new ≡ old
 
   -- What a step does to the stations. If it fails, a station has failed to commit its next number.
-  pub record KeepsStations (link : LinkId) (result : Result (BoxStep StationNote) JournalFault) :
-      Type 0 where
-    pub commits : IfOk result (λ step. CommitsNoted step.note)
-    pub failed : OnErr result ((name : ℕ)
-        × HasFailedAt d old new name (table_floor LIMIT (table_of old) name + 1))
-    pub fits : OnOk result (All (FitsOf d) new)
-    pub serve : OnOk result (All (ServesOf link) new)
+  abbrev pub KeepsStations : LinkId → Result (BoxStep StationNote) JournalFault → Type 0
+  KeepsStations link result = KeepsBy d new (λ step. CommitsNoted step.note)
+      ((name : ℕ) × HasFailedAt d old new name (table_floor LIMIT (table_of old) name + 1)) link result

@@ -1,8 +1,9 @@
--- How the next number of a station is committed.
-use Rattle.std.specs.Prelude.{◌≡◌, ℕ, ◌+◌, ◌<◌, ◌≤◌, true, false, List, ◌∷◌, ◌++◌, length, Result}
-use Rattle.std.specs.Prelude.{OnOk, OnErr}
+-- How a number of a station is committed, and what a step does to the stations.
+use Rattle.std.specs.Prelude.{◌≡◌, ℕ, ◌+◌, ◌<◌, ◌≤◌, Bool, true, false, List, ◌∷◌, ◌++◌, length, Result}
+use Rattle.std.specs.Prelude.{OnOk, OnErr, IfOk, All}
 use Rattle.yasir_io.specs.declared.disk.SlotDisk.{Ghosts as SlotDisk}
 use Rattle.sequence_journal.specs.declared.journal.JournalFault.{JournalFault}
+use Rattle.sequence_journal.specs.declared.link.LinkId.{LinkId}
 use Rattle.sequence_journal.specs.declared.numbers.TheConstants.{LIMIT}
 use Rattle.sequence_journal.specs.Commits.{HasCommitted, HasFailed}
 use Rattle.sequence_journal.specs.Journal.{journal_link, journal_floor, IsCrashSafe}
@@ -10,7 +11,7 @@ use Rattle.sequence_journal.specs.Journal.{HasFloorFrom}
 use Rattle.yasir_io.specs.Causes.{Rose}
 use Rattle.yasir_io.specs.Disks.{LeavesOnly}
 use Rattle.stations.specs.Table.{has_station, table_floor}
-use Rattle.station_boxes.specs.Served.{table_of, FitsOf}
+use Rattle.station_boxes.specs.Served.{table_of, FitsOf, ServesOf}
 use Rattle.station_boxes.specs.declared.station.Station.{Station}
 use Rattle.station_boxes.specs.declared.station.Taken.{Taken}
 use Rattle.station_boxes.specs.declared.station.Taken.TheVariants.{Number, Spent, Unlisted}
@@ -112,3 +113,23 @@ module _ {D : Type 0} (d : SlotDisk D) where
       × (new ≡ old)
   HasTakenNumber old new name Unlisted =
       (has_station (table_of old) name ≡ false) × (new ≡ old)
+
+  -- Holds if the first station with this name has committed this number, or, if it is said not to
+  -- have done so, the number isn't above its floor, and nothing has changed.
+  abbrev pub HasCommittedOrNot : List (Station D) → List (Station D) → ℕ → ℕ → Bool → Type 0
+  HasCommittedOrNot old new name number true = HasCommittedAt old new name number
+  HasCommittedOrNot old new name number false =
+      (number ≤ table_floor LIMIT (table_of old) name) × (new ≡ old)
+
+  -- What a step does to the stations, if `did` says what a step with this answer does, and `fails`
+  -- what one that fails does.
+  pub record KeepsBy {A : Type 0} (new : List (Station D)) (did : A → Type 0) (fails : Type 0)
+      (link : LinkId) (result : Result A JournalFault) : Type 0 where
+    -- a step that succeeds has done what its answer says
+    pub commits : IfOk result did
+    -- one that fails has failed to commit
+    pub failed : OnErr result fails
+    -- after one that succeeds, each disk is as its journal knows it
+    pub fits : OnOk result (All (FitsOf d) new)
+    -- and each journal serves the link
+    pub serve : OnOk result (All (ServesOf link) new)

@@ -6,3 +6,8 @@ pub mod Stands
 pub mod Answers
 pub mod Between
 pub mod OwnNames
+pub mod Checks
+pub mod CheckWalks
+pub mod CheckStands
+pub mod Late
+pub mod CheckBetween

@@ -17,7 +17,7 @@ pub struct NamedTwice {
 }
 
 // Whether a station has this name.
-fn has_name<D>(stations: &[Station<D>], name: u16) -> bool
+pub(crate) fn has_name<D>(stations: &[Station<D>], name: u16) -> bool
     ensures { result ≡ has_station (table_of stations.now) name }
 {
     match place_of(stations, name) {

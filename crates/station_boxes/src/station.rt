@@ -1,9 +1,11 @@
 //! The stations that a box serves: the name, the key and the journal of each.
-ghost use Rattle.std.specs.Prelude.{◌≡◌, ◌==◌, ◌<◌, length, position, IfSome, IfOk, OnErr, All, ℕ};
-ghost use Rattle.stations.specs.Table.{table_key};
+ghost use Rattle.std.specs.Prelude.{◌≡◌, ◌==◌, ◌<◌, ◌≤◌, length, position, IfSome, IfOk, OnErr, All, ℕ};
+ghost use Rattle.stations.specs.Table.{table_floor, table_key};
 ghost use Rattle.station_boxes.specs.Served.{table_of, FitsOf, IsPlaceOf};
 ghost use Rattle.station_boxes.specs.declared.station.Station.{Station};
 ghost use Rattle.station_boxes.specs.Committing.{HasTakenNumber, HasFailedNext, MayCommitAt, CommitsAt};
+ghost use Rattle.station_boxes.specs.Committing.{HasCommittedOrNot, HasFailedAt};
+ghost use Rattle.sequence_journal.specs.declared.numbers.TheConstants.{LIMIT};
 
 use arrayvec::ArrayVec;
 use sequence_journal::{Journal, JournalFault, LIMIT};
@@ -41,6 +43,17 @@ pub(crate) fn key_of<D>(stations: &[Station<D>], name: u16) -> &[u8]
     match place_of(stations, name) {
         Some(place) => stations[place].key.as_slice(),
         None => &[],
+    }
+}
+
+// Returns the floor of the first station with this name, or the limit if none has it.
+pub(crate) fn floor_of<D>(stations: &[Station<D>], name: u16) -> u64
+    ensures value { result ≡ table_floor LIMIT (table_of stations.now) name }
+    ensures within { result ≤ LIMIT }
+{
+    match place_of(stations, name) {
+        Some(place) => stations[place].journal.floor(),
+        None => LIMIT,
     }
 }
 
@@ -86,6 +99,49 @@ fn take_next<D: SlotDisk>(stations: &mut [Station<D>], place: usize) -> Result<T
     let number = floor + 1;
     match commit_at(stations, place, number) {
         Ok(()) => Ok(Taken::Number(number)),
+        Err(JournalFault) => Err(JournalFault),
+    }
+}
+
+// Commits this number of the first station with this name, if there is one and the number is above
+// its floor. Returns whether it did.
+pub(crate) fn commit_number<D: SlotDisk>(
+    stations: &mut [Station<D>],
+    name: u16,
+    number: u64,
+) -> Result<bool, JournalFault>
+    requires within { number ≤ LIMIT }
+    requires fits { All (FitsOf D.SlotDisk) stations.old }
+    ensures done { IfOk result (HasCommittedOrNot D.SlotDisk stations.old stations.new name number) }
+    ensures failed { OnErr result (HasFailedAt D.SlotDisk stations.old stations.new name number) }
+{
+    match place_of(stations, name) {
+        Some(place) => commit_above(stations, place, number),
+        None => Ok(false),
+    }
+}
+
+// Commits this number of the station at this place, which is the first with its name, if the number
+// is above its floor. Returns whether it did.
+fn commit_above<D: SlotDisk>(
+    stations: &mut [Station<D>],
+    place: usize,
+    number: u64,
+) -> Result<bool, JournalFault>
+    requires within { number ≤ LIMIT }
+    requires place { place < length stations.old }
+    requires first { (name : ℕ) × IsPlaceOf stations.old name place }
+    requires fits { All (FitsOf D.SlotDisk) stations.old }
+    ensures done { IfOk result (λ done. (name : ℕ) → IsPlaceOf stations.old name place
+        → HasCommittedOrNot D.SlotDisk stations.old stations.new name number done) }
+    ensures failed { OnErr result ((name : ℕ) → IsPlaceOf stations.old name place
+        → HasFailedAt D.SlotDisk stations.old stations.new name number) }
+{
+    if number <= stations[place].journal.floor() {
+        return Ok(false);
+    }
+    match commit_at(stations, place, number) {
+        Ok(()) => Ok(true),
         Err(JournalFault) => Err(JournalFault),
     }
 }
