@@ -15,8 +15,8 @@ import itertools, os, subprocess, sys, tempfile
 import built
 from killed import KEY, slot_of
 
-NEW = bytes(32) + slot_of(0) + bytes(24)
-# What `live seal` leaves if a write fails behind the settle of its first number: one that is 15 above it.
+NEW, BACK = (bytes(32) + slot_of(0, ("rtu", way)) + bytes(24) for way in ("ab", "ba"))
+# What `live seal` and `live line` leave if a write fails behind the settle of its first number: one that is 15 above it.
 AHEAD = bytes(32) + slot_of(0) + slot_of(16)
 REQUEST = b"+01030000000ac5cd\n-40\n"
 FAULTS = {5: b"fault: read input: is a folder\n", 11: b"fault: journal stands at 0\n"}
@@ -27,6 +27,7 @@ COMMANDS = [
     ("check rtu ab KEY JOURNAL", NEW, (0, 1, 2)),
     ("live seal rtu ab KEY JOURNAL", NEW, (0, 1, 2)),
     ("live check rtu ab KEY JOURNAL", NEW, (0, 1, 2)),
+    ("live line rtu ab KEY JOURNAL GOT", NEW, (0, 1, 2)),
     ("init rtu ab JOURNAL", None, ()),
     ("init rtu ab JOURNAL", NEW, ()),
     ("read rtu", NEW, (0, 1)),
@@ -50,7 +51,7 @@ def bytes_of(path):
 class Runs:
     def __init__(self, program, folder):
         self.program = program
-        self.places = {name: os.path.join(folder, name) for name in ("KEY", "JOURNAL", "in", "out", "log")}
+        self.places = {name: os.path.join(folder, name) for name in ("KEY", "JOURNAL", "GOT", "in", "out", "log")}
 
     def put(self, name, content):
         if content is not None:
@@ -59,14 +60,15 @@ class Runs:
             os.remove(self.places[name])
 
     def run(self, words, text, journal, closed):
-        """The status of a run, and what the output, the log, the key and the journal have after it."""
-        for name, content in (("KEY", KEY.encode()), ("JOURNAL", journal), ("in", text), ("out", b""), ("log", b"")):
+        """The status of a run, and what the output, the log, the key and both journals have after it."""
+        files = {"KEY": KEY.encode(), "JOURNAL": journal, "GOT": BACK, "in": text, "out": b"", "log": b""}
+        for name, content in files.items():
             self.put(name, content)
         with open(self.places["in"]) as source, open(self.places["out"], "w") as out, open(self.places["log"], "w") as log:
             status = subprocess.call(
                 [self.program] + [self.places.get(word, word) for word in words.split()], stdin=source, stdout=out, stderr=log,
                 preexec_fn=lambda: [os.close(place) for place in closed])
-        return (status,) + tuple(bytes_of(self.places[name]) for name in ("out", "log", "KEY", "JOURNAL"))
+        return (status,) + tuple(bytes_of(self.places[name]) for name in ("out", "log", "KEY", "JOURNAL", "GOT"))
 
 
 def wanted(right, needed, closed):
@@ -82,9 +84,11 @@ def look_at(words, before, closed, right, seen, status):
         faults.append("status %d instead of %d" % (seen[0], status))
     if seen[3] != KEY.encode():
         faults.append("the key's file was written")
-    may = (before, right[4], AHEAD) if words.startswith("live seal") and status == 6 else (before, right[4])
+    may = (before, right[4], AHEAD) if words.startswith(("live seal", "live line")) and status == 6 else (before, right[4])
     if seen[4] not in may or (0 in closed and status == 5 and seen[4] != before):
         faults.append("the journal's file holds %r" % seen[4])
+    if seen[5] not in (BACK, right[5]) or (0 in closed and status == 5 and seen[5] != BACK):
+        faults.append("the second journal's file holds %r" % seen[5])
     for place, name in ((1, "output"), (2, "log")):
         text, whole = seen[place], right[place]
         if place in closed:
@@ -102,8 +106,10 @@ def texts(replay):
     """The input of each command, other than the request, by a `link_replay`."""
     link = replay.run("seal rtu ab KEY JOURNAL", REQUEST, NEW, ())[1]
     received = replay.run("check rtu ab KEY JOURNAL", link, NEW, ())[1]
+    back = replay.run("seal rtu ba KEY GOT", REQUEST, NEW, ())[1]
+    both = b"".join(way + line for way, text in ((b">", REQUEST), (b"<", back)) for line in text.splitlines(True))
     lists = {"check": [link], "live check": [link], "replay": [REQUEST, link], "duplex": [REQUEST, link],
-             "two_wire": [REQUEST, link], "audit": [REQUEST, link, received]}
+             "two_wire": [REQUEST, link], "live line": [both], "audit": [REQUEST, link, received]}
     return {command: b"%\n".join(parts) for command, parts in lists.items()}
 
 

@@ -18,7 +18,7 @@ from killed import KEY, floor_of, slot_of
 # The requests of a line: their text is longer than a read of 65,536 bytes.
 FRAMES = 3200
 LINE = b"+01030000000ac5cd\n-40\n" * FRAMES
-NEW = bytes(32) + slot_of(0) + bytes(24)
+NEW, BACK = (bytes(32) + slot_of(0, ("rtu", way)) + bytes(24) for way in ("ab", "ba"))
 # The commands that print nothing before the end of their input, and the calls on each stream.
 AT_ONCE = ("replay", "audit", "duplex", "two_wire")
 STREAMS = {"in": ("r", 5), "out": ("w", 6), "log": ("w", 6), "key": ("r", 5)}
@@ -36,19 +36,28 @@ def is_front(part, whole):
     return behind.startswith(last)
 
 
+def ways(words, text):
+    """The text of each way of a live line of both, or the whole text."""
+    if words[:2] != ["live", "line"]:
+        return [text]
+    return [b"".join(line[1:] for line in text.splitlines(True) if line.startswith(letter)) for letter in (b">", b"<")]
+
+
 class Tried:
     def __init__(self, program, folder):
         self.program, self.folder, self.made, self.wrong = program, folder, 0, 0
-        self.paths = {name: os.path.join(folder, name) for name in (*STREAMS, "journal")}
+        self.paths = {name: os.path.join(folder, name) for name in (*STREAMS, "journal", "got")}
         with open(self.paths["key"], "w") as file:
             file.write(KEY)
         self.calls = {name: Calls(folder, self.paths[name]) for name in STREAMS}
 
     def run(self, words, text, name="in", fault=None):
-        """Runs the program with a journal that holds 0."""
-        with open(self.paths["journal"], "wb") as file:
-            file.write(NEW)
-        words = [self.paths.get({"KEY": "key", "JOURNAL": "journal"}.get(word), word) for word in words]
+        """Runs the program with journals that hold 0."""
+        for journal, slots in (("journal", NEW), ("got", BACK)):
+            with open(self.paths[journal], "wb") as file:
+                file.write(slots)
+        named = {"KEY": "key", "JOURNAL": "journal", "GOT": "got"}
+        words = [self.paths.get(named.get(word), word) for word in words]
         return self.calls[name].run([self.program] + words, text, fault=fault)
 
     def see(self, holds, what):
@@ -61,10 +70,17 @@ class Tried:
         """Whether a run in which a call on this stream failed leaves a part of what a whole run leaves."""
         notes, fault, more = ran.log.partition(b"fault: ")
         reads = STREAMS[name][0] == "r"
-        right = ran.status == STREAMS[name][1] and is_front(ran.out, whole.out) and whole.log.startswith(notes)
+        right = ran.status == STREAMS[name][1] and all(map(is_front, ways(words, ran.out), ways(words, whole.out)))
+        right = right and all(map(bytes.startswith, ways(words, whole.log), ways(words, notes)))
         right = right and (more.startswith(b"read") and more.count(b"\n") == 1 and more.endswith(b"\n") if reads else not fault)
         right = right and not (reads and words[0] in AT_ONCE and ran.out + notes)
-        return right and ("JOURNAL" not in words or max(numbers(ran.log), default=0) <= floor_of(self.paths["journal"]))
+        return right and ("JOURNAL" not in words or self.are_kept(words, notes))
+
+    def are_kept(self, words, notes):
+        """Whether the journals hold the numbers that were noted."""
+        journals = ((self.paths["journal"], ("rtu", "ab")), (self.paths["got"], ("rtu", "ba")))
+        kept = zip(ways(words, notes), journals)
+        return all(max(numbers(noted), default=0) <= floor_of(*journal) for noted, journal in kept)
 
     def fail_each(self, words, text, name, whole):
         """Makes each call on this stream fail in turn, up to the first that isn't made. Returns how many there are."""
@@ -102,6 +118,9 @@ def main():
         short = LINE[:22 * 40]
         tried.try_command("live seal rtu ab KEY JOURNAL", short, "in out log key")
         tried.try_command("live check rtu ab KEY JOURNAL", link[:72 * 40], "in out log key")
+        back = tried.run("seal rtu ba KEY GOT".split(), short).out
+        both = b"".join(way + line for way, text in ((b">", short), (b"<", back)) for line in text.splitlines(True))
+        tried.try_command("live line rtu ab KEY JOURNAL GOT", both, "in out log key")
         tried.try_command("read rtu", LINE, "in out")
         tried.try_command("space rtu", LINE, "in out")
         both = LINE + b"%\n" + link

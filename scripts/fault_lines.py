@@ -14,7 +14,7 @@ import fcntl, os, subprocess, sys, tempfile
 import built
 from killed import KEY, slot_of
 
-NEW = bytes(32) + slot_of(0) + bytes(24)
+NEW, BACK = (bytes(32) + slot_of(0, ("rtu", way)) + bytes(24) for way in ("ab", "ba"))
 REQUEST = b"+01030000000ac5cd\n-40\n"
 LINK = ["rtu", "ab"]
 
@@ -24,7 +24,7 @@ WANTED = {
     "init": ["init P DIR JOURNAL"],
     "seal": ["seal P DIR KEY JOURNAL"],
     "check": ["check P DIR KEY JOURNAL"],
-    "live": ["live seal P DIR KEY JOURNAL", "live check P DIR KEY JOURNAL"],
+    "live": ["live seal P DIR KEY JOURNAL", "live check P DIR KEY JOURNAL", "live line P DIR KEY SENT GOT"],
     "space": ["space P"],
     "replay": ["replay P DIR KEY"],
     "audit": ["audit P DIR KEY F G [LEAST..MOST] [spaced]"],
@@ -93,7 +93,7 @@ def keys(tried, program):
         cases.append((hidden, "permission denied"))
     for path, why in cases:
         for words in (["seal", *LINK, path, journal], ["check", *LINK, path, journal], ["live", "seal", *LINK, path, journal],
-                      ["replay", *LINK, path], ["duplex", *LINK, path], ["audit", *LINK, path, "0", "0"],
+                      ["live", "line", *LINK, path, journal, journal], ["replay", *LINK, path], ["duplex", *LINK, path], ["audit", *LINK, path, "0", "0"],
                       ["two_wire", *LINK, "answers", "45", "4", path]):
             tried.see(" ".join(words[:2]), ran([program, *words], input=REQUEST), 5, "fault: read key: %s\n" % why)
 
@@ -102,7 +102,7 @@ def inputs(tried, program):
     """Inputs that can't be read."""
     key, journal = tried.path("key", KEY.encode()), tried.path("journal", NEW)
     for words in (["read", "rtu"], ["space", "rtu"], ["seal", *LINK, key, journal], ["live", "check", *LINK, key, journal],
-                  ["replay", *LINK, key]):
+                  ["live", "line", *LINK, key, journal, tried.path("got", BACK)], ["replay", *LINK, key]):
         folder = os.open(tried.folder, os.O_RDONLY)
         tried.see("%s of a folder" % words[0], ran([program, *words], source=folder), 5, "fault: read input: is a folder\n")
         os.close(folder)
@@ -113,12 +113,21 @@ def inputs(tried, program):
 def journals(tried, program):
     """Journals that can't be opened, are held, or can't be written."""
     key, journal, missing = tried.path("key", KEY.encode()), tried.path("journal", NEW), tried.path("missing")
+    got = tried.path("got", BACK)
     for path, why in ((missing, "no such file"), (tried.folder, "is a folder"), (os.path.join(missing, "x"), "no such file"),
                       (os.path.join(key, "x"), "error 20 of the system")):
         for words in (["seal", *LINK, key, path], ["check", *LINK, key, path], ["live", "check", *LINK, key, path]):
             tried.see("%s at %s" % (words[0], path), ran([program, *words], input=REQUEST), 7, "fault: journal: %s\n" % why)
+        for name, paths in (("SENT", (path, got)), ("GOT", (journal, path))):
+            tried.see("live line with %s at %s" % (name, path), ran([program, "live", "line", *LINK, key, *paths]), 7,
+                      "fault: journal %s: %s\n" % (name, why))
     for path, why in ((tried.folder, "is a folder"), (os.path.join(missing, "x"), "no such file"), (key, "not empty")):
         tried.see("init at %s" % path, ran([program, "init", *LINK, path]), 7, "fault: journal: %s\n" % why)
+    for name, path in (("SENT", journal), ("GOT", got)):
+        with open(path) as held:
+            fcntl.flock(held, fcntl.LOCK_EX)
+            tried.see("live line with %s held" % name, ran([program, "live", "line", *LINK, key, journal, got]), 7,
+                      "fault: journal %s: held by another run\n" % name)
     with open(journal) as held:
         fcntl.flock(held, fcntl.LOCK_EX)
         for words in (["init", *LINK, journal], ["seal", *LINK, key, journal], ["live", "seal", *LINK, key, journal]):

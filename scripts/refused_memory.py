@@ -5,7 +5,7 @@
 
 A small library, compiled by `cc` and loaded before the C library, counts the calls that take or grow memory. For every N up to
 the last call that a whole run makes, one run has only its N-th call refused, and another its N-th call and all after it. `replay`,
-`space`, `audit`, `duplex` and `poll` must end with NoMemory, with nothing in their output and only their fault line in the log, or as they
+`space`, `audit`, `duplex`, `poll` and `live line` must end with NoMemory, with nothing in their output and only their fault line in the log, or as they
 do when nothing is refused. The other commands take no memory after their words are read. It ends with 1 if a run ends in another
 way. It is no part of the gate.
 """
@@ -17,7 +17,7 @@ from model import AUDIT_STATUS
 
 ROOT = os.path.dirname(os.path.dirname(os.path.abspath(__file__)))
 EXAMPLES = os.path.join(ROOT, "examples")
-JOURNAL = bytes(32) + slot_of(0) + bytes(24)
+JOURNALS = {name: bytes(32) + slot_of(0, ("rtu", way)) + bytes(24) for name, way in (("JOURNAL", "ab"), ("GOT", "ba"))}
 NO_MEMORY, NO_WORDS = 9, 13
 
 LIBRARY = r"""
@@ -101,14 +101,16 @@ class Runs:
 
     def run(self, words, text, refused=None, behind=False):
         """The status, output and log of a run, and the number of its calls that take memory."""
-        count, journal = os.path.join(self.folder, "count"), os.path.join(self.folder, "journal")
-        open(journal, "wb").write(JOURNAL)
+        count, places = os.path.join(self.folder, "count"), {"KEY": os.path.join(EXAMPLES, "key.txt")}
+        for name, slots in JOURNALS.items():
+            places[name] = os.path.join(self.folder, name)
+            open(places[name], "wb").write(slots)
         around = dict(os.environ, LD_PRELOAD=self.library, REFUSED_COUNT=count)
         if refused:
             around["REFUSED_CALL"] = str(refused)
             if behind:
                 around["REFUSED_BEHIND"] = "1"
-        words = [{"JOURNAL": journal, "KEY": os.path.join(EXAMPLES, "key.txt")}.get(word, word) for word in words]
+        words = [places.get(word, word) for word in words]
         done = subprocess.run([self.program] + words, input=text, capture_output=True, env=around)
         return done.returncode, done.stdout, done.stderr, int(open(count).read() or 0)
 
@@ -122,7 +124,7 @@ def main():
         ("replay rtu ab KEY", requests), ("replay dnp3 ab KEY", device), ("replay rtu ab KEY", long), ("read rtu", requests.split(b"%\n")[0]),
         ("audit rtu ab KEY 0 0", session), ("audit rtu ab KEY 0 0", long + b"%\n" + long.split(b"%\n")[0]),
         ("duplex rtu ab KEY", requests), ("duplex dnp3 ba KEY", device), ("duplex rtu ab KEY", long),
-        ("poll rtu 7 3", b""), ("space rtu", requests.split(b"%\n")[0]), ("space dnp24", device.split(b"%\n")[0]),
+        ("poll rtu 7 3", b""), ("live line rtu ab KEY JOURNAL GOT", b">+01030000000ac5cd\n>-40\n<-40\n"), ("space rtu", requests.split(b"%\n")[0]), ("space dnp24", device.split(b"%\n")[0]),
         ("seal rtu ab KEY JOURNAL", requests.split(b"%\n")[0]), ("check rtu ab KEY JOURNAL", requests.split(b"%\n")[1]), ("vectors", b""), ("help", b""), ("version", b""), ("trial rtu 7 20", b""),
     ]
     wrong = 0
@@ -136,7 +138,7 @@ def main():
                 for behind in (False, True):
                     end = runs.run(words, text, n, behind)[:3]
                     right = end == (status, out, log) or end[:2] == (NO_WORDS, b"") or end == (NO_MEMORY, b"", b"")
-                    if words[0] in ("replay", "space", "audit", "duplex", "poll"):
+                    if words[0] in ("replay", "space", "audit", "duplex", "poll", "live"):
                         right = right or end == (NO_MEMORY, b"", b"fault: memory\n")
                     ends[end[0]] = ends.get(end[0], 0) + 1
                     if not right:

@@ -14,8 +14,8 @@ import built
 from killed import KEY, floor_of, old_slot_of, slot_of
 
 # A row: `$` and its words, `<` before each line of the input, `>` of the output and `!` of the log (`..` is the rest of a line), `=` and
-# the exit status if it isn't 0, and `@` for the journal: its link or `old`, its direction, and the last number in it before and after
-# the run.
+# the exit status if it isn't 0, and `@` for each journal, JOURNAL and then GOT: its link or `old`, its direction, and the last number in
+# it before and after the run.
 ROWS = """
 # The other profile, the other protocol, and the other direction.
 $ seal rtu24 ab KEY JOURNAL
@@ -106,6 +106,89 @@ $ seal rtu ab KEY JOURNAL
 > +0006bffa8bcd3f6ad232de11820a
 > -11
 ! sealed 6 at 0 len 8
+# Both ways of a live line, of which each line has a letter. The spacer sends the reply in the tick after the fourth silent one behind it.
+$ live line rtu ab KEY JOURNAL GOT
+@ rtu ab 0 1
+@ rtu ba 0 1
+< >+01030000000ac5cd
+< >-4
+< <+0103020007f986
+< <-3
+< <+0001cd6dbabb477e2c4fe8f0680e
+< <-11
+> >+01030000000ac5cd
+> >-3
+> >+00
+> <-29
+> <+0103020007f9
+> >+01014c5b8d33c6d29a347013b0
+> >-11
+> <+86
+> <-21319
+! >sealed 1 at 0 len 8
+! <passed 1 at 0 len 7
+# A poll of this end that comes back to it doesn't pass.
+$ live line rtu ab KEY JOURNAL GOT
+@ rtu ab 4 4
+@ rtu ba 7 7
+< <+01030000000ac5cd
+< <-3
+< <+0001014c5b8d33c6d29a347013b0
+< <-11
+> <-36
+> >-24
+> <-21320
+! <refused at 0 tag
+# A refused line of each way, and one of no way: it is counted in the stream.
+$ live line rtu ab KEY JOURNAL GOT
+@ rtu ab 0 0
+@ rtu ba 0 0
+< >-4
+< <-2
+< >+0
+> >-4
+> <-2
+! fault: line 3 odd
+= 4
+$ live line rtu ab KEY JOURNAL GOT
+@ rtu ab 0 0
+@ rtu ba 0 0
+< >-4
+< <%
+> >-4
+! fault: line 2 char
+= 4
+$ live line rtu ab KEY JOURNAL GOT
+@ rtu ab 0 0
+@ rtu ba 0 0
+< -4
+! fault: line 1 char
+= 4
+# The journals of both ways exchanged, one for both, one that is missing, and a key in place of one.
+$ live line rtu ab KEY GOT JOURNAL
+@ rtu ab 0 0
+@ rtu ba 0 0
+! fault: wrong link SENT 000000000000000001011202fffffffffffffffffefeedfd
+= 12
+$ live line rtu ba KEY GOT GOT
+@ rtu ab 0 0
+@ rtu ba 0 0
+! fault: journal GOT: held by another run
+= 7
+$ live line rtu ab KEY JOURNAL missing
+@ rtu ab 0 0
+! fault: journal GOT: no such file
+= 7
+$ live line rtu ab KEY missing GOT
+! fault: journal SENT: no such file
+= 7
+$ live line rtu ab KEY KEY GOT
+! fault: bad journal SENT 0a0000000000000000000000000000000000000000000000 000000000000000000000000000000000000000000000000
+= 8
+$ live line rtu ab KEY JOURNAL KEY
+@ rtu ab 0 0
+! fault: bad journal GOT 0a0000000000000000000000000000000000000000000000 000000000000000000000000000000000000000000000000
+= 8
 # A journal of another link, a file that is no journal (a key, whose last byte begins slot A), and files that are missing. None is made.
 $ seal rtu ab KEY JOURNAL
 @ dnp3 ab 0 0
@@ -415,6 +498,8 @@ seal dnp324 ab key journal|seal rtu ab key journal x
 check rtu ab key|check rtu ab '' journal|check rtu ab key ''|check dnp33 ab key journal|checks rtu ab key journal
 live|live rtu ab key journal|live seal rtu ab key|live seal rtu ab key ''|live seal rtu ab '' journal|live seal rtu key ab journal
 live init rtu ab key journal|live seal rtu ab key journal x
+live line rtu ab key sent|live line rtu ab key sent ''|live line rtu ab key '' got|live line rtu ab '' sent got|live line rtu ab key sent got x
+live lines rtu ab key sent got|live line rtu key ab sent got
 replay rtu ab|replay rtu ab ''|replay dnp ab key|replay rtu AB key|replay rtu ab key journal
 init|init ''|init journal|init rtu ab ''|init dnp ab journal|init rtu AB journal
 audit rtu ab key 0 281474976710656|audit rtu ab key 281474976710656 0|audit rtu ab key 18446744073709551616 0|audit rtu ab key 00 0
@@ -428,7 +513,7 @@ two_wire rtu24 ba answers 28 4 key|two_wire rtu ba answers 023 4 key|two_wire rt
 
 # The words of each command, which are said of words that begin with its name and fit no command. For other words the commands are said.
 USAGES = ("read P", "init P DIR JOURNAL", "seal P DIR KEY JOURNAL", "check P DIR KEY JOURNAL", "live seal P DIR KEY JOURNAL",
-          "live check P DIR KEY JOURNAL", "space P", "replay P DIR KEY", "audit P DIR KEY F G [LEAST..MOST] [spaced]", "duplex P DIR KEY",
+          "live check P DIR KEY JOURNAL", "live line P DIR KEY SENT GOT", "space P", "replay P DIR KEY", "audit P DIR KEY F G [LEAST..MOST] [spaced]", "duplex P DIR KEY",
           "two_wire P DIR SIDE WINDOW PAUSE KEY", "trial P SEED COUNT", "poll P SEED COUNT", "vectors", "help", "version")
 COMMANDS = "read init seal check live space replay audit duplex two_wire trial poll vectors help version"
 
@@ -459,10 +544,10 @@ def rows(text):
     found = []
     for line in text.splitlines():
         if line.startswith("$"):
-            found.append({"$": line[2:].split(), "@": None, "<": [], ">": [], "!": [], "=": 0})
+            found.append({"$": line[2:].split(), "@": [], "<": [], ">": [], "!": [], "=": 0})
         elif line.startswith("@"):
             link, direction, before, after = line[2:].split()
-            found[-1]["@"] = (link, direction), int(before), int(after)
+            found[-1]["@"].append(((link, direction), int(before), int(after)))
         elif line.startswith("="):
             found[-1]["="] = int(line[2:])
         elif line and not line.startswith("#"):
@@ -477,13 +562,13 @@ def text_of(lines):
 class Runs:
     def __init__(self, program, folder):
         self.program, self.folder, self.made, self.wrong = program, folder, 0, 0
-        self.key, self.journal = os.path.join(folder, "key"), os.path.join(folder, "journal")
+        self.key, self.journal, self.got = (os.path.join(folder, name) for name in ("key", "journal", "got"))
         with open(self.key, "w") as file:
             file.write(KEY)
 
     def run(self, words, text):
         """The exit status, the output and the log of a run."""
-        words = [{"KEY": self.key, "JOURNAL": self.journal}.get(word, word) for word in words]
+        words = [{"KEY": self.key, "JOURNAL": self.journal, "GOT": self.got}.get(word, word) for word in words]
         ran = subprocess.run([self.program] + words, cwd=self.folder, input=text, capture_output=True, text=True)
         return ran.returncode, ran.stdout, ran.stderr
 
@@ -494,24 +579,23 @@ class Runs:
             self.wrong += 1
             print("WRONG: %s\n    left   %s\n    wanted %s" % (" ".join(words), found, wanted), flush=True)
 
-    def put_journal(self, link, before):
+    def put_journal(self, link, before, path=None):
         """Makes the journal of a link, or an old one, with this number."""
         slots = old_slot_of(before) + bytes(16 + 48) if link[0] == "old" else bytes(32) + slot_of(before, link) + bytes(24)
-        with open(self.journal, "wb") as file:
+        with open(path or self.journal, "wb") as file:
             file.write(slots)
 
     def compare(self, row):
         """Runs a row, and compares what it leaves."""
-        journal, floors = row["@"], ()
-        if journal:
-            self.put_journal(*journal[:2])
+        journals = list(zip(row["@"], (self.journal, self.got)))
+        for (link, before, _), path in journals:
+            self.put_journal(link, before, path)
         found, log = self.run(row["$"], text_of(row["<"])), text_of(row["!"])
         if log.endswith("..\n") and found[2].count("\n") == 1 and found[2].startswith(log[:-3]):
             log = found[2]
-        if journal:
-            link, _, after = journal
-            found, floors = found + (floor_of(self.journal, ("rtu" if link[0] == "old" else link[0], link[1])),), (after,)
-        self.see(row["$"], found, (row["="], text_of(row[">"]), log) + floors)
+        floors = tuple(floor_of(path, ("rtu" if link[0] == "old" else link[0], link[1])) for (link, _, _), path in journals)
+        wanted = tuple(after for (_, _, after), _ in journals)
+        self.see(row["$"], found + floors, (row["="], text_of(row[">"]), log) + wanted)
 
     def refuse(self, words):
         """Checks that words fit no command, and that the words of the command that was meant are said."""
@@ -559,7 +643,7 @@ def main():
         runs.show()
         runs.go_on()
         left = sorted(os.listdir(folder))
-        runs.see(["the folder"], left, ["journal", "key"])
+        runs.see(["the folder"], left, ["got", "journal", "key"])
     print("%d runs, %d wrong" % (runs.made, runs.wrong))
     return 1 if runs.wrong else 0
 

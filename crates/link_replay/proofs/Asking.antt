@@ -8,7 +8,7 @@ use Rattle.link_replay.specs.{Words.Asks, Words.AreFloors, declared.words.Comman
 use Rattle.link_replay.specs.declared.words.Command.TheVariants.{Init, Read, Vectors, Seal, Check}
 use Rattle.link_replay.specs.declared.words.Command.TheVariants.{Replay, Trial, Poll, Space, Audit}
 use Rattle.link_replay.specs.declared.words.Command.TheVariants.{Duplex, LiveSeal, LiveCheck}
-use Rattle.link_replay.specs.declared.words.Command.TheVariants.{TwoWire, Help, Version}
+use Rattle.link_replay.specs.declared.words.Command.TheVariants.{TwoWire, LiveLine, Help, Version}
 use Rattle.two_wire.specs.declared.gate.Side.{Side}
 use Rattle.two_wire.specs.declared.gate.Side.TheVariants as side
 use Rattle.command_ends.proofs.Telling.{is_word, proto_by, profile_by, dir_by, proto-by, profile-by}
@@ -64,7 +64,9 @@ command_by verb first second third fourth fifth more =
     (cond (is_word (codes "live") verb)
     (cond (is_word (codes "seal") first)
     (LiveSeal (proto_by second) (profile_by second) (dir_by third))
-    (LiveCheck (proto_by second) (profile_by second) (dir_by third)))
+    (cond (is_word (codes "line") first)
+    (LiveLine (proto_by second) (profile_by second) (dir_by third))
+    (LiveCheck (proto_by second) (profile_by second) (dir_by third))))
     (cond (is_word (codes "help") verb) Help
     (cond (is_word (codes "--help") verb) Help
     (cond (is_word (codes "-h") verb) Help
@@ -127,6 +129,8 @@ command-in words (LiveSeal proto profile dir) h =
     ap command_in h.4 ∙ box-by LiveSeal proto profile dir
 command-in words (LiveCheck proto profile dir) h =
     ap command_in h.4 ∙ box-by LiveCheck proto profile dir
+command-in words (LiveLine proto profile dir) h =
+    ap command_in h.6 ∙ box-by LiveLine proto profile dir
 command-in words (Space proto profile) h =
     ap command_in h ∙ rw (proto-by proto profile, profile-by proto profile) refl
 command-in words (Trial proto profile seed count) h =

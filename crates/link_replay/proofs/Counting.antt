@@ -3,10 +3,11 @@ use Rattle.link_replay.specs.{Words.IsCommand, declared.words.Command.Command}
 use Rattle.link_replay.specs.declared.words.Command.TheVariants.{Init, Read, Vectors, Seal, Check}
 use Rattle.link_replay.specs.declared.words.Command.TheVariants.{Replay, Trial, Poll, Space, Audit}
 use Rattle.link_replay.specs.declared.words.Command.TheVariants.{Duplex, TwoWire, LiveSeal, LiveCheck}
-use Rattle.link_replay.specs.declared.words.Command.TheVariants.{Help, Version}
+use Rattle.link_replay.specs.declared.words.Command.TheVariants.{LiveLine, Help, Version}
 use Rattle.command_ends.proofs.Listed.{six}
 use Rattle.link_replay.proofs.LateWords.{late-count}
-use Rattle.std.proofs.Common.{◌≡◌, ◌⊎◌, ◌+◌, ◌<◌, ◌≤◌, ℕ, List, [], ◌∷◌, length, map, get_or, ap, arith, inl, inr}
+use Rattle.std.proofs.Common.{◌≡◌, ◌⊎◌, ◌+◌, ◌<◌, ◌≤◌, ℕ, List, [], ◌∷◌, length, map, get_or}
+use Rattle.std.proofs.Common.{ap, arith, inl, inr}
 
 -- The count is 1, 2, or 4 to 8.
 abbrev IsCount : ℕ → Type 0
@@ -61,6 +62,8 @@ words-count words (LiveSeal proto profile dir) h =
     count-of 6 words (right-count 6 (omega arith) (omega arith) (inr (omega arith))) (ap length h.4)
 words-count words (LiveCheck proto profile dir) h =
     count-of 6 words (right-count 6 (omega arith) (omega arith) (inr (omega arith))) (ap length h.4)
+words-count words (LiveLine proto profile dir) h =
+    count-of 7 words (right-count 7 (omega arith) (omega arith) (inr (omega arith))) (ap length h.6)
 words-count words Help (inl h) =
     count-of 1 words (right-count 1 (omega arith) (omega arith) (inl (omega arith))) (ap length h)
 words-count words Help (inr (inl h)) =

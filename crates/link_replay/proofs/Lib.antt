@@ -2,6 +2,8 @@ pub mod LateWords
 pub mod Asking
 pub mod Counting
 pub mod Outcomes
+pub mod OverTwo
+pub mod JournalNames
 pub mod Flushing
 pub mod Headlines
 pub mod KeyedRuns

@@ -10,16 +10,17 @@ use Rattle.command_ends.specs.Programs.{EndsLog, IsCalm}
 use Rattle.link_replay.specs.Commands.{Does, MayDo, EndsWell, HasCauses, HasRecordedCauses}
 use Rattle.link_replay.specs.Commands.{FlushesAfter}
 use Rattle.link_replay.specs.LiveCommands.{HasLiveCauses}
+use Rattle.link_replay.specs.Words.{IsOverOne}
 use Rattle.live_commands.proofs.Able.{lives_done}
 use Rattle.link_replay.specs.declared.commands.live.TheConstants.{LIVE_AHEAD}
-use Rattle.live_commands.specs.LineEnds.{ends_port, line_around}
+use Rattle.live_commands.specs.LineEnds.{ends_port, line_around, HasCounts}
 use Rattle.link_replay.specs.InitCommand.{MakesJournal, IsBlank}
 use Rattle.link_replay.specs.{ReadCommand.device_reads, SpaceCommand.spaced_by}
 use Rattle.link_replay.specs.declared.words.Command.{Command}
 use Rattle.link_replay.specs.declared.words.Command.TheVariants.{Init, Read, Vectors, Seal, Check}
 use Rattle.link_replay.specs.declared.words.Command.TheVariants.{Replay, Trial, Poll, Space, Audit}
 use Rattle.link_replay.specs.declared.words.Command.TheVariants.{Duplex, LiveSeal, LiveCheck}
-use Rattle.link_replay.specs.declared.words.Command.TheVariants.{TwoWire, Help, Version}
+use Rattle.link_replay.specs.declared.words.Command.TheVariants.{TwoWire, LiveLine, Help, Version}
 use Rattle.command_ends.{proofs.Links.link-right, specs.Links.link_of}
 use Rattle.command_ends.proofs.{FlushLaws.flushes_after, Logging.sinks_after}
 use Rattle.command_ends.specs.Causes.{SinkCause, DiskCause, NoneRose}
@@ -65,6 +66,19 @@ module _ (key0 key1 in0 in1 out0 out1 log0 log1 disk0 disk1 : ℕ)
       elim sinks [ inl out ↦ absurd (calm.out out) | inr log ↦ absurd (calm.log log) ]
   text_done text out_before out_now status h sinks = absurd h
 
+module _ {K S O L D : Type 0} (k : Source K) (s : Source S) (o : Sink O) (l : Sink L) where
+  -- The counts of a live line are still as its status says after the fault line.
+  pub counts_after : (before after : Outside K S O L D) (noted : L) (status : Status) (line : List ℕ)
+      → (fault_line untold status ≡ [] → line ≡ [])
+      → HasCounts k s o l before (record after { log = noted }) status
+      → EndsLog l noted after.log line → HasCounts k s o l before after status
+  counts_after before after noted status line none h ends = record {
+    reads = h.reads;
+    sinks = sinks_after (o.faults before.out) (o.faults after.out) (l.faults before.log)
+        (l.faults noted) (l.faults after.log) status h.sinks ends.never_falls
+        (λ empty. ap l.faults (ends.same (none empty)));
+  }
+
 module _ {K S O L D : Type 0} (k : Source K) (s : Source S) (o : Sink O) (l : Sink L)
     (d : SlotDisk D) where
   -- The causes still hold after the fault line, whether it was written or its write failed.
@@ -90,25 +104,23 @@ module _ {K S O L D : Type 0} (k : Source K) (s : Source S) (o : Sink O) (l : Si
       → HasLiveCauses k s o l d before (record after { log = noted }) status
       → EndsLog l noted after.log line → HasLiveCauses k s o l d before after status
   live_after before after noted status line none h ends = record {
-    counts = record {
-      reads = h.counts.reads;
-      sinks = sinks_after (o.faults before.out) (o.faults after.out) (l.faults before.log)
-          (l.faults noted) (l.faults after.log) status h.counts.sinks ends.never_falls
-          (λ empty. ap l.faults (ends.same (none empty)));
-    };
+    counts = counts_after k s o l before after noted status line none h.counts ends;
     disk = h.disk;
   }
 
   pub causes_after : (asked : Option Command) (before after : Outside K S O L D) (noted : L)
-      (status : Status) (line : List ℕ) → (fault_line untold status ≡ [] → line ≡ [])
+      (status : Status) (line : List ℕ) → IsOverOne asked
+      → (fault_line untold status ≡ [] → line ≡ [])
       → HasCauses k s o l d asked before (record after { log = noted }) status
       → EndsLog l noted after.log line → FlushesAfter l asked noted after.log line
       → HasCauses k s o l d asked before after status
-  causes_after (Some (LiveSeal proto profile dir)) before after noted status line none h ends
+  causes_after (Some (LiveSeal proto profile dir)) before after noted status line one none h ends
       flushed = live_after before after noted status line none h ends
-  causes_after (Some (LiveCheck proto profile dir)) before after noted status line none h ends
+  causes_after (Some (LiveCheck proto profile dir)) before after noted status line one none h ends
       flushed = live_after before after noted status line none h ends
-  causes_after asked before after noted status line none h ends flushed =
+  causes_after (Some (LiveLine proto profile dir)) before after noted status line one none h ends
+      flushed = absurd one
+  causes_after asked before after noted status line one none h ends flushed =
       recorded_after asked before after noted status line none h ends flushed
 
   -- What the causes say of the sinks, for whatever command.
@@ -159,6 +171,8 @@ module _ {K S O L D : Type 0} (k : Source K) (s : Source S) (o : Sink O) (l : Si
       (link-right proto profile dir) dir check_rest 0 before.key after.key (line_around before)
       (line_around after) may calm.key calm.input calm.disk status does causes.disk
       (λ is. no_write before after status calm causes.counts.sinks is)
+  asked_done (Some (LiveLine proto profile dir)) before after status may calm does causes =
+      absurd may
   asked_done (Some Help) before after status may calm does causes =
       text_done _ _ _ _ _ _ _ _ _ _ calm _ _ _ status does.1.printed causes.streams.sinks
   asked_done (Some Version) before after status may calm does causes =

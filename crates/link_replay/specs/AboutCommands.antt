@@ -9,7 +9,7 @@ use Rattle.link_replay.specs.declared.words.Command.{Command}
 use Rattle.link_replay.specs.declared.words.Command.TheVariants.{Init, Read, Vectors, Seal, Check}
 use Rattle.link_replay.specs.declared.words.Command.TheVariants.{Replay, Trial, Poll, Space}
 use Rattle.link_replay.specs.declared.words.Command.TheVariants.{Audit, Duplex, LiveSeal, LiveCheck}
-use Rattle.link_replay.specs.declared.words.Command.TheVariants.{TwoWire, Help, Version}
+use Rattle.link_replay.specs.declared.words.Command.TheVariants.{TwoWire, LiveLine, Help, Version}
 
 -- the words that ask for a command, as the page of `help` names them
 abbrev pub named_words : Command → List ℕ
@@ -24,6 +24,7 @@ named_words (Duplex proto profile dir) = codes "duplex P DIR KEY"
 named_words (TwoWire proto profile dir side waits) = codes "two_wire P DIR SIDE WINDOW PAUSE KEY"
 named_words (LiveSeal proto profile dir) = codes "live seal P DIR KEY JOURNAL"
 named_words (LiveCheck proto profile dir) = codes "live check P DIR KEY JOURNAL"
+named_words (LiveLine proto profile dir) = codes "live line P DIR KEY SENT GOT"
 named_words (Trial proto profile seed count) = codes "trial P SEED COUNT"
 named_words (Poll proto profile seed count) = codes "poll P SEED COUNT"
 named_words Vectors = codes "vectors"

@@ -1,4 +1,5 @@
--- What the program does for each command that its words may ask for, or if they ask for none.
+-- What the program does over one disk, for each command but `live line` that its words may ask for, or
+-- if they ask for none.
 use Rattle.std.specs.Prelude.{◌≡◌, ◌⊎◌, ℕ, List, Option, Some, None}
 use Rattle.yasir_io.specs.declared.source.Source.{Ghosts as Source}
 use Rattle.yasir_io.specs.declared.sink.Sink.{Ghosts as Sink}
@@ -9,7 +10,6 @@ use Rattle.yasir_io.specs.Flushed.{IsNotFlushed}
 use Rattle.sequence_journal.specs.Journal.{IsBut}
 use Rattle.command_ends.specs.Outside.{Outside}
 use Rattle.command_ends.specs.Causes.{InputCause, DiskCause}
-use Rattle.command_ends.specs.Programs.{Runs}
 use Rattle.command_ends.specs.StreamCauses.{HasStreamCauses}
 use Rattle.link_replay.specs.InitCommand.{Inits, IsBlank}
 use Rattle.command_ends.specs.Readable.{IsReadable}
@@ -35,7 +35,7 @@ use Rattle.link_replay.specs.declared.words.Command.{Command}
 use Rattle.link_replay.specs.declared.words.Command.TheVariants.{Init, Read, Vectors, Seal, Check}
 use Rattle.link_replay.specs.declared.words.Command.TheVariants.{Replay, Trial, Poll, Space}
 use Rattle.link_replay.specs.declared.words.Command.TheVariants.{Audit, Duplex, LiveSeal, LiveCheck}
-use Rattle.link_replay.specs.declared.words.Command.TheVariants.{TwoWire, Help, Version}
+use Rattle.link_replay.specs.declared.words.Command.TheVariants.{TwoWire, LiveLine, Help, Version}
 
 -- What a crash may leave of the disk, at any moment of the run or at its end.
 abbrev pub KeepsDisk : {D : Type 0} → SlotDisk D → Option Command → D → D → Type 0
@@ -56,12 +56,8 @@ KeepsDisk d asked old new = new ≡ old
 abbrev pub FlushesAfter : {L : Type 0} → Sink L → Option Command → L → L → List ℕ → Type 0
 FlushesAfter l (Some (LiveSeal proto profile dir)) noted now text = FlushesFault l noted now text
 FlushesAfter l (Some (LiveCheck proto profile dir)) noted now text = FlushesFault l noted now text
+FlushesAfter l (Some (LiveLine proto profile dir)) noted now text = FlushesFault l noted now text
 FlushesAfter l asked noted now text = IsNotFlushed l noted now
-
--- The same by the status of the run, of which `line` is the text.
-abbrev pub FlushesLog : {L : Type 0} → Sink L → (Status → List ℕ) → Option Command → L → L → Status
-    → Type 0
-FlushesLog l line asked noted now status = FlushesAfter l asked noted now (line status)
 
 -- The causes that depend on the command: that of the disk and, if the command reads no key, that of
 -- the input.
@@ -84,6 +80,7 @@ HasOwnCauses asked in_before in_now disk_before disk_now status =
 module _ {K S O L D : Type 0} (k : Source K) (s : Source S) (o : Sink O) (l : Sink L)
     (d : SlotDisk D) where
   -- What is done before the fault line is written: nothing at all if the words ask for no command.
+  -- `live line` isn't done over one disk.
   abbrev pub Does : Option Command → Outside K S O L D → Outside K S O L D → Status → Type 0
   Does None before after status = (status ≡ Usage) × (after ≡ before)
   Does (Some (Init proto profile dir)) before after status =
@@ -112,14 +109,9 @@ module _ {K S O L D : Type 0} (k : Source K) (s : Source S) (o : Sink O) (l : Si
       SealsLive k s o l d proto profile dir before after status
   Does (Some (LiveCheck proto profile dir)) before after status =
       ChecksLive k s o l d proto profile dir before after status
+  Does (Some (LiveLine proto profile dir)) before after status = ⊥
   Does (Some Help) before after status = Helps o l before after status
   Does (Some Version) before after status = TellsVersion o l before after status
-
-  -- What a run does: what was asked for, and then the writing of the text of a fault. `line` is that
-  -- text for each status.
-  abbrev pub RunsSo : (Status → List ℕ) → Option Command → Outside K S O L D → Outside K S O L D
-      → Status → Type 0
-  RunsSo line = Runs l line Does (FlushesLog l line)
 
   -- Holds if all that the command is given is right.
   abbrev pub MayDo : Option Command → Outside K S O L D → Type 0
@@ -150,12 +142,13 @@ module _ {K S O L D : Type 0} (k : Source K) (s : Source S) (o : Sink O) (l : Si
   MayDo (Some (LiveCheck proto profile dir)) before =
       IsLivable (link_of proto profile dir) (k.left before.key) (d.told before.disk)
       (s.left before.input)
+  MayDo (Some (LiveLine proto profile dir)) before = ⊥
   MayDo (Some Help) before = Unit {0}
   MayDo (Some Version) before = Unit {0}
 
   -- How a command may end if all that it is given is right and nothing outside fails. Only
-  -- `replay`, `space`, `audit`, `duplex`, `two_wire` and `poll` take memory, and there may be none for
-  -- them. An audit ends with the status of its verdict on the recordings that it was given.
+  -- `replay`, `space`, `audit`, `duplex`, `two_wire`, `poll` and `live line` take memory, and there may
+  -- be none for them. An audit ends with the status of its verdict on the recordings that it was given.
   abbrev pub EndsWell : Option Command → Outside K S O L D → Status → Type 0
   EndsWell (Some (Replay proto profile dir)) before status = (status ≡ Done) ⊎ (status ≡ NoMemory)
   EndsWell (Some (Poll proto profile seed count)) before status =
@@ -167,6 +160,7 @@ module _ {K S O L D : Type 0} (k : Source K) (s : Source S) (o : Sink O) (l : Si
   EndsWell (Some (Duplex proto profile dir)) before status = (status ≡ Done) ⊎ (status ≡ NoMemory)
   EndsWell (Some (TwoWire proto profile dir side waits)) before status =
       (status ≡ Done) ⊎ (status ≡ NoMemory)
+  EndsWell (Some (LiveLine proto profile dir)) before status = (status ≡ Done) ⊎ (status ≡ NoMemory)
   EndsWell asked before status = status ≡ Done
 
   -- For each status of a command that isn't one of a live line, which counts of faults rose, and

@@ -17,4 +17,5 @@ pub mod PollCommand
 pub mod AboutCommands
 pub mod UsageLines
 pub mod Commands
+pub mod TwoDisks
 pub mod OverFiles

@@ -1,4 +1,5 @@
--- The commands `live seal` and `live check`: the transmitter and the receiver on a line as it comes.
+-- The commands `live seal` and `live check`: the transmitter and the receiver on a line as it comes;
+-- and `live line`: both, on both ways of it.
 use Rattle.std.specs.Prelude.{◌≢◌, ◌⊎◌, List, [], ℕ}
 use Rattle.yasir_io.specs.Causes.{Rose}
 use Rattle.yasir_io.specs.Flushed.{IsFlushed}
@@ -14,7 +15,13 @@ use Rattle.command_ends.specs.declared.link.Proto.{Proto}
 use Rattle.line_commands.specs.LinkBoxes.{seal_boxed, seal_rest, check_boxed, check_rest}
 use Rattle.command_ends.specs.Causes.{DiskCause}
 use Rattle.live_commands.specs.LineEnds.{LivesOver, HasCounts}
+use Rattle.live_ways.specs.WayCommand.{BothWays}
+use Rattle.live_ways.specs.WayStreams.{line_of_link}
 use Rattle.link_replay.specs.declared.commands.live.TheConstants.{LIVE_AHEAD}
+
+-- both ways of a live line, as `live line` runs them
+abbrev pub own_line : Proto → Profile → Dir → BothWays
+own_line = line_of_link LIVE_AHEAD
 
 module _ {K S O L D : Type 0} (k : Source K) (s : Source S) (o : Sink O) (l : Sink L)
     (d : SlotDisk D) where

@@ -5,20 +5,27 @@ use Rattle.std.specs.Prelude.{if◌then◌else◌}
 use Rattle.std.specs.List.{filter_map, concat}
 use Rattle.link_format.specs.declared.dir.Dir.TheVariants.{Ab}
 use Rattle.two_wire.specs.declared.gate.Side.TheVariants.{Asks}
+use Rattle.hex.specs.Hex.{encode_lower}
+use Rattle.yasir_io.specs.declared.reason.Reason.{Reason}
+use Rattle.live_line.specs.declared.ways.Way.{Way}
+use Rattle.live_line.specs.declared.ways.Way.TheVariants.{Outgoing, Incoming}
+use Rattle.command_ends.specs.Reasons.{refused_line}
 use Rattle.command_ends.specs.Statuses.{fault_line}
 use Rattle.command_ends.specs.declared.link.Profile.TheVariants.{Y18}
 use Rattle.command_ends.specs.declared.link.Proto.TheVariants.{Rtu}
 use Rattle.command_ends.specs.declared.reasons.Reasons.{Reasons}
 use Rattle.command_ends.specs.declared.status.Status.{Status}
-use Rattle.command_ends.specs.declared.status.Status.TheVariants.{Usage}
+use Rattle.command_ends.specs.declared.status.Status.TheVariants.{Usage, JournalFault, BadJournal}
+use Rattle.command_ends.specs.declared.status.Status.TheVariants.{WrongLink}
 use Rattle.link_replay.specs.AboutCommands.{named_words}
 use Rattle.session_audit.specs.Sessions.{exact}
+use Rattle.live_ways.specs.declared.line_status.Ended.{Ended}
 use Rattle.link_replay.specs.declared.words.Audited.{Audited}
 use Rattle.link_replay.specs.declared.words.Command.{Command}
 use Rattle.link_replay.specs.declared.words.Command.TheVariants.{Init, Read, Vectors, Seal, Check}
 use Rattle.link_replay.specs.declared.words.Command.TheVariants.{Replay, Trial, Poll, Space}
 use Rattle.link_replay.specs.declared.words.Command.TheVariants.{Audit, Duplex, LiveSeal, LiveCheck}
-use Rattle.link_replay.specs.declared.words.Command.TheVariants.{TwoWire, Help, Version}
+use Rattle.link_replay.specs.declared.words.Command.TheVariants.{TwoWire, LiveLine, Help, Version}
 
 -- some session
 abbrev pub any_audit : Audited
@@ -36,7 +43,8 @@ abbrev pub first_words : List (List ℕ × Command)
 first_words = (codes "read", Read Rtu) ∷ (codes "init", Init Rtu Y18 Ab)
     ∷ (codes "seal", Seal Rtu Y18 Ab) ∷ (codes "check", Check Rtu Y18 Ab)
     ∷ (codes "live", LiveSeal Rtu Y18 Ab) ∷ (codes "live", LiveCheck Rtu Y18 Ab)
-    ∷ (codes "space", Space Rtu Y18) ∷ (codes "replay", Replay Rtu Y18 Ab)
+    ∷ (codes "live", LiveLine Rtu Y18 Ab) ∷ (codes "space", Space Rtu Y18)
+    ∷ (codes "replay", Replay Rtu Y18 Ab)
     ∷ (codes "audit", Audit any_audit) ∷ (codes "duplex", Duplex Rtu Y18 Ab)
     ∷ (codes "two_wire", TwoWire Rtu Y18 Ab Asks (record { window = 0; pause = 0 }))
     ∷ (codes "trial", Trial Rtu Y18 0 0) ∷ (codes "poll", Poll Rtu Y18 0 0)
@@ -69,7 +77,33 @@ abbrev pub usage_text : List (List ℕ) → List ℕ
 usage_text [] = codes "fault: usage\n" ++ commands_line
 usage_text (word ∷ words) = codes "fault: usage\n" ++ usage_lines word
 
+-- what a fault line says of a journal behind its first words, if the command has two
+abbrev pub journal_name : Option Way → List ℕ
+journal_name None = []
+journal_name (Some Outgoing) = codes " SENT"
+journal_name (Some Incoming) = codes " GOT"
+
+-- the line of a call on a journal that failed, with what is said of the journal, by the reason that its
+-- disk tells
+abbrev pub named_fault_line : List ℕ → Option Reason → List ℕ
+named_fault_line name (Some why) =
+    refused_line (codes "fault: journal" ++ name) (codes "held by another run") why
+named_fault_line name None = codes "fault: journal" ++ name ++ codes "\n"
+
+-- The fault line of a status, with what is said of the journal that it is about.
+abbrev pub line_with : List ℕ → Reasons → Status → List ℕ
+line_with name told JournalFault = named_fault_line name told.journal
+line_with name told (BadJournal a b) = codes "fault: bad journal" ++ name
+    ++ (codes " " ++ encode_lower a ++ codes " " ++ encode_lower b ++ codes "\n")
+line_with name told (WrongLink slot) =
+    codes "fault: wrong link" ++ name ++ (codes " " ++ encode_lower slot ++ codes "\n")
+line_with name told status = fault_line told status
+
+-- what a run with these words and this status writes last to the log, about a journal of this name
+abbrev pub text_with : List (List ℕ) → List ℕ → Reasons → Status → List ℕ
+text_with words name told Usage = usage_text words
+text_with words name told status = line_with name told status
+
 -- What a run with these words writes last to the log, by the reasons that its objects tell.
-abbrev pub fault_text : List (List ℕ) → Reasons → Status → List ℕ
-fault_text words told Usage = usage_text words
-fault_text words told status = fault_line told status
+abbrev pub fault_text : List (List ℕ) → Reasons → Ended → List ℕ
+fault_text words told ended = text_with words (journal_name ended.way) told ended.status

@@ -17,7 +17,7 @@ use Rattle.link_replay.specs.declared.words.Command.{Command}
 use Rattle.link_replay.specs.declared.words.Command.TheVariants.{Init, Read, Vectors, Seal, Check}
 use Rattle.link_replay.specs.declared.words.Command.TheVariants.{Replay, Trial, Poll, Space}
 use Rattle.link_replay.specs.declared.words.Command.TheVariants.{Audit, Duplex, LiveSeal, LiveCheck}
-use Rattle.link_replay.specs.declared.words.Command.TheVariants.{TwoWire, Help, Version}
+use Rattle.link_replay.specs.declared.words.Command.TheVariants.{TwoWire, LiveLine, Help, Version}
 use Rattle.link_replay.specs.declared.words.FirstSix.{FirstSix}
 
 -- Holds if the words ask for a box: its name, a protocol and a profile, a direction, and the paths
@@ -33,6 +33,15 @@ abbrev pub AskForLiveBox : List ℕ → Proto → Profile → Dir → List (List
 AskForLiveBox name proto profile dir words =
     (key : List ℕ) × (path : List ℕ) × (key ≢ []) × (path ≢ [])
     × (words ≡ codes "live" ∷ name ∷ link_word proto profile ∷ dir_word dir ∷ key ∷ path ∷ [])
+
+-- Holds if the words ask for both ways of a live line: a protocol and a profile, a direction, and the
+-- paths of the key, of the journal of the numbers sent and of that of the numbers that came, which
+-- aren't empty.
+abbrev pub AskForLiveLine : Proto → Profile → Dir → List (List ℕ) → Type 0
+AskForLiveLine proto profile dir words =
+    (key : List ℕ) × (sent : List ℕ) × (got : List ℕ) × (key ≢ []) × (sent ≢ []) × (got ≢ [])
+    × (words ≡ codes "live" ∷ codes "line" ∷ link_word proto profile ∷ dir_word dir ∷ key ∷ sent
+    ∷ got ∷ [])
 
 -- the word of a side
 abbrev pub side_word : Side → List ℕ
@@ -124,6 +133,7 @@ IsCommand words (LiveSeal proto profile dir) =
     AskForLiveBox (codes "seal") proto profile dir words
 IsCommand words (LiveCheck proto profile dir) =
     AskForLiveBox (codes "check") proto profile dir words
+IsCommand words (LiveLine proto profile dir) = AskForLiveLine proto profile dir words
 
 -- Holds if the words ask for a new journal, for whatever link.
 abbrev pub AskForJournal : List (List ℕ) → Type 0
@@ -138,7 +148,13 @@ Asks words asked = AsksFor IsCommand words asked
 abbrev pub IsRecorded : Command → Type 0
 IsRecorded (LiveSeal proto profile dir) = ⊥
 IsRecorded (LiveCheck proto profile dir) = ⊥
+IsRecorded (LiveLine proto profile dir) = ⊥
 IsRecorded command = Unit {0}
+
+-- Holds if a command has one journal or none.
+abbrev pub IsOverOne : Option Command → Type 0
+IsOverOne (Some (LiveLine proto profile dir)) = ⊥
+IsOverOne asked = Unit {0}
 
 -- Holds if a command takes memory.
 abbrev pub TakesMemory : Command → Type 0
@@ -171,6 +187,7 @@ key_place (Duplex proto profile dir) = Some 3
 key_place (TwoWire proto profile dir side waits) = Some 6
 key_place (LiveSeal proto profile dir) = Some 4
 key_place (LiveCheck proto profile dir) = Some 4
+key_place (LiveLine proto profile dir) = Some 4
 key_place Help = None
 key_place Version = None
 
@@ -191,8 +208,15 @@ journal_place (Duplex proto profile dir) = None
 journal_place (TwoWire proto profile dir side waits) = None
 journal_place (LiveSeal proto profile dir) = Some 5
 journal_place (LiveCheck proto profile dir) = Some 5
+journal_place (LiveLine proto profile dir) = Some 5
 journal_place Help = None
 journal_place Version = None
+
+-- The place, counted from 0, of the word that is the path of the second journal's file, if the command
+-- has one: that of the numbers that came, of a live line of both ways.
+abbrev pub second_place : Command → Option ℕ
+second_place (LiveLine proto profile dir) = Some 6
+second_place command = None
 
 -- the word at a place, if there is one
 abbrev pub word_in : List (List ℕ) → Option ℕ → Option (List ℕ)

@@ -19,10 +19,11 @@ mod words;
 pub use command_ends::{NOT_GIVEN, Profile, Proto, Usage};
 use line_commands::Streams;
 pub use link_format::Dir;
+pub use live_ways::{BothDisks, Ended};
 pub use over_files::run_over_files;
 pub use program::run;
 use std::process::ExitCode;
-pub use words::{Command, journal_word, key_word, makes_journal, read_words};
+pub use words::{Command, journal_word, key_word, makes_journal, read_words, second_word};
 use yasir_io::{StderrSink, StdinSource, StdoutSink};
 
 fn main(rt: HostRuntime) -> ExitCode {

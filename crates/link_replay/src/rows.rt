@@ -16,6 +16,11 @@ pub const NEW: [u8; 24] = [
     0, 0, 0, 0, 0, 0, 0, 0, 1, 0, 18, 2, 255, 255, 255, 255, 255, 255, 255, 255, 254, 255, 237, 253,
 ];
 
+/// A slot of a journal of `rtu ba` that holds number 0.
+pub const BACK: [u8; 24] = [
+    0, 0, 0, 0, 0, 0, 0, 0, 1, 1, 18, 2, 255, 255, 255, 255, 255, 255, 255, 255, 254, 254, 237, 253,
+];
+
 /// A slot that was never written.
 pub const BLANK: [u8; 24] = [0; 24];
 
@@ -28,6 +33,8 @@ pub struct Row {
     pub text: &'static [u8],
     /// Slot A of the journal. Slot B is blank.
     pub slot: &'static [u8; 24],
+    /// Slot A of the second journal. Slot B is blank.
+    pub second: &'static [u8; 24],
     /// The calls of the input and of the output that fail, counted from 1, or 0 if none does. A
     /// write takes up to 100 bytes.
     pub fails: (u32, u32),
@@ -47,6 +54,7 @@ const READ: Row = Row {
     words: "read rtu",
     text: REQUEST,
     slot: &NEW,
+    second: &BACK,
     fails: (0, 0),
     exit_status: 0,
     out: b"read at 0 01030000000ac5cd\n",
@@ -97,7 +105,8 @@ pub const SINGLE: &[Row] = &[
         exit_status: 2,
         out: b"",
         log: b"fault: usage\nusage: link_replay live seal P DIR KEY JOURNAL\n\
-          usage: link_replay live check P DIR KEY JOURNAL\n",
+          usage: link_replay live check P DIR KEY JOURNAL\n\
+          usage: link_replay live line P DIR KEY SENT GOT\n",
         ..READ
     },
 ];
@@ -194,6 +203,47 @@ pub const KEPT: &[Row] = &[
         out: b"-18\n+01030000000ac5\n",
         log: b"passed 1 at 0 len 8\nfault: read\n",
         ..SEAL
+    },
+];
+
+/// A request that goes out, and the packet of a reply that comes in. The spacer sends the reply in
+/// the tick after the fourth silent one behind it.
+const BOTH: Row = Row {
+    words: "live line rtu ab key sent got",
+    text: b">+01030000000ac5cd\n>-4\n\
+      <+0103020007f986\n<-3\n<+0001cd6dbabb477e2c4fe8f0680e\n<-11\n",
+    out: b">+01030000000ac5cd\n>-3\n>+00\n<-29\n<+0103020007f9\n\
+      >+01014c5b8d33c6d29a347013b0\n>-11\n<+86\n<-21319\n",
+    log: b">sealed 1 at 0 len 8\n<passed 1 at 0 len 7\n",
+    ..READ
+};
+
+/// Both ways of a live line. The tag of the reply is that of direction `ba`.
+pub const WAYS: &[Row] = &[
+    BOTH,
+    // A line is counted among those of both ways.
+    Row {
+        text: b">-4\n<-2\n>+0\n",
+        exit_status: 4,
+        out: b">-4\n<-2\n",
+        log: b"fault: line 3 odd\n",
+        ..BOTH
+    },
+    // The second journal is one of the first one's direction.
+    Row {
+        second: &NEW,
+        exit_status: 12,
+        out: b"",
+        log: b"fault: wrong link GOT 000000000000000001001202fffffffffffffffffeffedfd\n",
+        ..BOTH
+    },
+    // The first write of the output fails.
+    Row {
+        fails: (0, 1),
+        exit_status: 6,
+        out: b"",
+        log: b">sealed 1 at 0 len 8\n",
+        ..BOTH
     },
 ];
 

@@ -5,7 +5,7 @@ ghost use Rattle.std.specs.String.{string_bytes};
 ghost use Rattle.sequence_journal.specs.declared.numbers.TheConstants.{LIMIT};
 ghost use Rattle.link_replay.specs.declared.words.Command.{Command};
 ghost use Rattle.link_replay.specs.Words.{IsCommand, Asks};
-ghost use Rattle.link_replay.specs.Words.{key_place, journal_place, AskForJournal};
+ghost use Rattle.link_replay.specs.Words.{key_place, journal_place, second_place, AskForJournal};
 ghost use Rattle.link_replay.specs.Words.{side_word, most_ticks, least_window, MayWait};
 ghost use Rattle.link_replay.specs.Words.{AreLateWords, MayBeLate, range_word, six_with};
 ghost use Rattle.session_audit.specs.declared.session.Tolerance.{Tolerance};
@@ -80,6 +80,9 @@ pub enum Command {
     LiveSeal(Proto, Profile, Dir),
     /// Checks the packets of a live link, and sends on what passes.
     LiveCheck(Proto, Profile, Dir),
+    /// Runs the box at one end of a live line, over both ways in one stream. The direction is that in
+    /// which its device sends.
+    LiveLine(Proto, Profile, Dir),
     /// Prints the page that lists the program's words.
     Help,
     /// Prints the program's name and version.
@@ -385,6 +388,31 @@ fn read_live(words: FirstSix<'_>) -> Result<Command, Usage>
     }
 }
 
+// Reads the words of `live line`: a link, and the paths of a key and two journals, which must not be
+// empty.
+fn read_live_line(words: FirstSix<'_>, got: &str) -> Result<Command, Usage>
+    requires { words.first.now ≡ codes "live" }
+    ensures ok { IfOk result (λ command. IsCommand (six_with words.entry (got.now ∷ [])) command) }
+    ensures usage { OnErr result ((command : Command)
+        → IsCommand (six_with words.entry (got.now ∷ [])) command → ⊥) }
+{
+    if words.second != "line" {
+        return Err(Usage);
+    }
+    if words.fifth.is_empty() {
+        return Err(Usage);
+    }
+    if words.sixth.is_empty() {
+        return Err(Usage);
+    }
+    if got.is_empty() {
+        return Err(Usage);
+    }
+    let (proto, profile) = read_link(words.third)?;
+    let dir = read_dir(words.fourth)?;
+    Ok(Command::LiveLine(proto, profile, dir))
+}
+
 // Returns the side that a word names.
 fn read_side(word: &str) -> Result<Side, Usage>
     ensures ok { IfOk result (λ side. word.now ≡ side_word side) }
@@ -479,6 +507,7 @@ fn read_seven(words: FirstSix<'_>, seventh: &str) -> Result<Command, Usage>
 {
     match words.first {
         "two_wire" => read_two_wire(words, seventh),
+        "live" => read_live_line(words, seventh),
         "audit" => {
             let tolerance = read_late(seventh)?;
             read_audit(words, tolerance)
@@ -580,6 +609,7 @@ pub fn key_word(words: &[String]) -> Option<usize>
         Ok(Command::TwoWire(..)) => Some(6),
         Ok(Command::LiveSeal(..)) => Some(4),
         Ok(Command::LiveCheck(..)) => Some(4),
+        Ok(Command::LiveLine(..)) => Some(4),
         Err(Usage) => None,
     }
 }
@@ -604,7 +634,23 @@ pub fn journal_word(words: &[String]) -> Option<usize>
         Ok(Command::Duplex(..) | Command::TwoWire(..)) => None,
         Ok(Command::LiveSeal(..)) => Some(5),
         Ok(Command::LiveCheck(..)) => Some(5),
+        Ok(Command::LiveLine(..)) => Some(5),
         Err(Usage) => None,
+    }
+}
+
+/// Returns the place, counted from 0, of the word that is the path of the second journal's file, or
+/// `None` if the words have no such path. Only `live line` has one.
+pub fn second_word(words: &[String]) -> Option<usize>
+    /// If the words ask for a command, the place is that of the command's table.
+    ensures place { (command : Command) → IsCommand (map string_bytes words.now) command
+        → result ≡ second_place command }
+    /// If the words ask for no command, it is `None`.
+    ensures none { Asks (map string_bytes words.now) None → result ≡ None }
+{
+    match read_words(words) {
+        Ok(Command::LiveLine(..)) => Some(6),
+        _ => None,
     }
 }
 
@@ -620,7 +666,7 @@ pub fn makes_journal(words: &[String]) -> bool
         Ok(Command::Seal(..) | Command::Check(..) | Command::Replay(..)) => false,
         Ok(Command::Audit(..)) => false,
         Ok(Command::Duplex(..) | Command::TwoWire(..)) => false,
-        Ok(Command::LiveSeal(..) | Command::LiveCheck(..)) => false,
+        Ok(Command::LiveSeal(..) | Command::LiveCheck(..) | Command::LiveLine(..)) => false,
         Err(Usage) => false,
     }
 }

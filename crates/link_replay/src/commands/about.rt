@@ -13,7 +13,7 @@ use yasir_io::{Sink, SlotDisk, Source};
 pub const VERSION_LINE: [u8; 18] = *b"link_replay 0.7.0\n";
 
 /// The page that `help` prints.
-pub const HELP_PAGE: [u8; 2370] =
+pub const HELP_PAGE: [u8; 2524] =
     *b"link_replay runs the boxes that protect a serial line, over recorded lines and
 over lines as they come.
 
@@ -23,6 +23,7 @@ over lines as they come.
   check P DIR KEY JOURNAL       receiver: turn the link into a device's line
   live seal P DIR KEY JOURNAL   the transmitter, on a line as it comes
   live check P DIR KEY JOURNAL  the receiver, on a line as it comes
+  live line P DIR KEY SENT GOT  both ways of a line as it comes, with a spacer
   space P                       a spacer: send on what is read, frame by frame
   replay P DIR KEY              list what was sealed, passed, read and forged
   audit P DIR KEY F G [LEAST..MOST] [spaced]  judge a session by recordings
@@ -38,6 +39,7 @@ P        rtu or dnp3; with longer tags rtu24 or dnp24, but not for read
 DIR      ab or ba
 KEY      the path of a key: 32 to 128 hex digits
 JOURNAL  the path of a box's journal
+SENT     the path of the transmitter's journal, GOT that of the receiver's
 SIDE     for whom the box speaks to its device: asks or answers
 WINDOW   the silent ticks in which an answer must begin, up to 1000000
 PAUSE    the silent ticks behind an answer's end, up to 1000000

@@ -10,4 +10,4 @@ returns-in-Ok-run_words-clause-ends g c =
     rw c.in-Ok-args.is (λ asked asks.
     let runs = c.in-Ok-run_words.ensures.runs asked
     (subst (λ them. Asks (map string_bytes them) asked) (sym words) asks) in
-    inl (c.in-Ok-run_words.status, c.exit_status.ensures, rw words at runs))
+    inl (c.in-Ok-run_words.ended, c.exit_status.ensures, rw words at runs))

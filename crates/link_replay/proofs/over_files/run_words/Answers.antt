@@ -6,10 +6,10 @@ pub returns-clause-runs : goal.returns-clause-runs
 returns-clause-runs g c = λ asked asks. record {
   key_before = c.in_ok-key.key;
   key_after = c.run.new.key;
-  disk_before = c.in_ok-disk.disk;
-  disk_after = c.run.new.disk;
+  disks_before = c.in_ok-disks.disks;
+  disks_after = c.run.new.disks;
   key = c.in_ok-key.ensures asked asks;
-  journal = c.in_ok-disk.ensures asked asks;
+  journals = c.in_ok-disks.ensures asked asks;
   usage = (
     λ is. asks-one _ asked _ asks (c.run.ensures.usage.0 is),
     λ none. c.run.ensures.usage.1 (subst (Asks _) none asks),
