@@ -4,13 +4,18 @@
  * a journal whose old slots aren't zeros, and says in its own words why a journal can't be used.
  *
  *     filter seal|check rtu|dnp3|rtu24|dnp24 ab|ba KEY JOURNAL */
-#include "journal.h"
+#define _GNU_SOURCE
+#include "yasir.h"
+#include <errno.h>
+#include <fcntl.h>
 #include <inttypes.h>
 #include <signal.h>
 #include <stdarg.h>
 #include <stdio.h>
 #include <stdlib.h>
 #include <string.h>
+#include <sys/file.h>
+#include <unistd.h>
 
 /* The exit statuses, apart from 0. */
 enum { BAD_WORDS = 2, BAD_KEY, BAD_TICKS, NO_READ, NO_WRITE, JOURNAL_FAULT, BAD_JOURNAL, NO_MEMORY,
@@ -20,10 +25,131 @@ enum { LINE_BYTES = 32, LINE_SILENCE = 1000000, COMMENT_LEN = 120 };
 enum { MOST_TICKS = 1 << 24, MOST_BYTES = 1 << 28 };
 
 static yasir_handle box;
-static journal kept;
+/* The open journal: its file, and slot A and then slot B as they were when it was opened. */
+static struct { int file; uint8_t slots[YASIR_SLOTS_LEN]; } kept;
 static uint8_t out[LINE_BYTES];
 static size_t out_bytes;
 static uint64_t out_silent;
+
+static int digit(int c)
+{
+    return c >= '0' && c <= '9' ? c - '0' : c >= 'a' && c <= 'f' ? c - 'a' + 10
+         : c >= 'A' && c <= 'F' ? c - 'A' + 10 : -1;
+}
+
+/* ---- key and journal as files, in the form of link_replay */
+
+enum { OLD_LEN = 16, FIRST = 2 * OLD_LEN, FILE_LEN = FIRST + YASIR_SLOTS_LEN };
+
+/* Opens the folder `/` at each of the places 0, 1 and 2 that is closed, so that no file that is opened later
+ * gets the place of a standard stream. Returns 0, or -1 if it can't be opened. */
+static int take_places(void)
+{
+    int place;
+    do place = open("/", O_RDONLY | O_CLOEXEC); while (place >= 0 && place <= 2);
+    return place < 0 ? -1 : close(place);
+}
+
+/* Reads up to `len` bytes, fewer only at the end of the file. Returns how many, or -1. */
+static ssize_t read_all(int file, uint8_t *bytes, size_t len)
+{
+    size_t got = 0;
+    while (got < len) {
+        ssize_t done = pread(file, bytes + got, len - got, (off_t)got);
+        if (done < 0 && errno == EINTR) continue;
+        if (done < 0) return -1;
+        if (done == 0) break;
+        got += (size_t)done;
+    }
+    return (ssize_t)got;
+}
+
+static int write_at(int file, const uint8_t *bytes, size_t len, off_t at)
+{
+    while (len > 0) {
+        ssize_t done = pwrite(file, bytes, len, at);
+        if (done < 0 && errno == EINTR) continue;
+        if (done <= 0) return -1;
+        bytes += done, at += done, len -= (size_t)done;
+    }
+    return 0;
+}
+
+/* Returns the number in the first bytes of a slot of either form, or -1 if its second half isn't the
+ * complement of its first one, or the number is above the greatest, 2^48 - 1. */
+static int64_t number_in(const uint8_t *slot, size_t len)
+{
+    int64_t number = 0;
+    size_t i;
+    for (i = 0; i < len / 2; i++)
+        if (slot[len / 2 + i] != 255 - slot[i]) return -1;
+    if (slot[0] != 0 || slot[1] != 0) return -1;
+    for (i = 2; i < 8; i++) number = number << 8 | slot[i];
+    return number;
+}
+
+/* Returns the number that a slot holds, for whatever link, or -1 if it holds none. */
+static int64_t journal_number(const uint8_t *slot)
+{
+    return slot[11] == 2 ? number_in(slot, YASIR_SLOT_LEN) : -1;
+}
+
+static _Noreturn void refuse_journal(const char *path, const char *why)
+{
+    fprintf(stderr, "journal %s: %s\n", path, why);
+    exit(JOURNAL_FAULT);
+}
+
+/* Opens, locks and syncs the journal at `path`, and reads its slots. */
+static void journal_open(const char *path)
+{
+    static const uint8_t none[FIRST];
+    uint8_t all[FILE_LEN] = {0};
+    kept.file = open(path, O_RDWR | O_CLOEXEC);
+    if (kept.file < 0) refuse_journal(path, strerror(errno));
+    if (flock(kept.file, LOCK_EX | LOCK_NB) != 0) refuse_journal(path, "in use");
+    if (fsync(kept.file) != 0 || read_all(kept.file, all, sizeof all) < 0) refuse_journal(path, strerror(errno));
+    if (number_in(all, OLD_LEN) >= 0 || number_in(all + OLD_LEN, OLD_LEN) >= 0)
+        refuse_journal(path, "has old slots with a number: docs/JOURNAL.md says how to take it over");
+    if (memcmp(all, none, sizeof none) != 0)
+        refuse_journal(path, "isn't a journal, or is damaged: docs/JOURNAL.md says what to do");
+    memcpy(kept.slots, all + FIRST, sizeof kept.slots);
+}
+
+/* Writes 24 bytes into the slot that `commit` names (YASIR_SLOT_A or YASIR_SLOT_B), and syncs. Returns 0, or -1
+ * if the write or the sync failed. */
+static int journal_commit(uint8_t commit, const uint8_t *slot)
+{
+    off_t at = FIRST + (commit == YASIR_SLOT_B ? YASIR_SLOT_LEN : 0);
+    if (write_at(kept.file, slot, YASIR_SLOT_LEN, at) != 0) return -1;
+    return fsync(kept.file) == 0 ? 0 : -1;
+}
+
+/* Reads a key of 32 to 128 hex digits from the file at `path`. Returns its length in bytes (16 to 64), 0 if the
+ * file has no such key, or -1 if it can't be read. `*place` is the length of the longest beginning of the file
+ * that begins a key. */
+static int key_read(const char *path, uint8_t key[64], size_t *place)
+{
+    char text[131];
+    size_t got, len = 0, end, i;
+    int failed;
+    FILE *file = fopen(path, "rb");
+    if (!file) return -1;
+    got = fread(text, 1, sizeof text, file);
+    failed = ferror(file);
+    fclose(file);
+    if (failed) return -1;
+    while (len < got && len < 128 && digit(text[len]) >= 0) len++;
+    end = len;
+    if (len >= 32 && len % 2 == 0) {
+        if (end < got && text[end] == '\r') end++;
+        if (end < got && text[end] == '\n') end++;
+    }
+    *place = end;
+    if (len < 32 || len % 2 != 0 || end != got || (end > len && text[end - 1] != '\n')) return 0;
+    for (i = 0; i < len; i += 2) key[i / 2] = (uint8_t)(digit(text[i]) * 16 + digit(text[i + 1]));
+    return (int)(len / 2);
+}
 
 /* ---- what is written */
 
@@ -98,7 +224,7 @@ static void step(int is_byte, uint8_t byte)
     uint8_t slot[YASIR_SLOT_LEN];
     uint8_t status = yasir_step(&box, is_byte ? byte : YASIR_SILENT, &answer, slot, sizeof slot);
     if (status == YASIR_COMMIT) {
-        int failed = journal_commit(&kept, answer.commit, slot) != 0;
+        int failed = journal_commit(answer.commit, slot) != 0;
         status = yasir_committed(&box, !failed, &answer);
         if (failed) end(JOURNAL_FAULT, "journal");
     }
@@ -138,12 +264,6 @@ static struct {
 } text = {.line = 1};
 
 static _Noreturn void refuse(const char *cause) { end(BAD_TICKS, "line %" PRIu32 " %s", text.line, cause); }
-
-static int digit(int c)
-{
-    return c >= '0' && c <= '9' ? c - '0' : c >= 'a' && c <= 'f' ? c - 'a' + 10
-         : c >= 'A' && c <= 'F' ? c - 'A' + 10 : -1;
-}
 
 /* Takes the ticks of the line, which has ended, and begins the next line. */
 static void end_line(void)
@@ -257,7 +377,7 @@ static void make_box(const yasir_kind *kind, const char *key_path, const char *j
     int key_len = key_read(key_path, key, &place);
     if (key_len < 0) end(NO_READ, "read");
     if (key_len == 0) end(BAD_KEY, "key at %zu", place);
-    if (journal_open(&kept, journal_path, 0, kind) != 0) exit(JOURNAL_FAULT);
+    journal_open(journal_path);
     switch (yasir_new(&box, kind, key, (size_t)key_len, kept.slots, sizeof kept.slots)) {
     case YASIR_OK: break;
     case YASIR_NO_JOURNAL: end(BAD_JOURNAL, "bad journal %s %s", hex_of(a), hex_of(b));

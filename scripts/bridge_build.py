@@ -1,5 +1,5 @@
 #!/usr/bin/env python3
-"""Builds the programs of bridge/, which use the proved library crates/yasir_c, into bridge/out/.
+"""Builds the programs of bridge/ into bridge/out/. One of them uses the proved library crates/yasir_c.
 
     python3 scripts/bridge_build.py
 
@@ -15,10 +15,7 @@ CRATE = os.path.join(ROOT, "crates", "yasir_c")
 LIBRARY = os.path.join(CRATE, "out", "libyasir_c.a")
 PROVED = os.path.join(OUT, "proved")  # an empty file that is as old as the last proof that ended well
 FLAGS = ["-std=gnu11", "-O2", "-Wall", "-Wextra", "-Wconversion"]
-PROGRAMS = {
-    "filter": (["filter.c", "journal.c"], []),
-    "bridge": (["bridge.c", "journal.c"], ["-pthread"]),
-}
+PROGRAMS = ("filter",)
 
 
 class Missing(Exception):
@@ -78,9 +75,8 @@ def build(name, path=None, more=()):
     """Builds a program of bridge/, and returns its path: the one that is given, or the one in bridge/out/. `more` is further words for
     the compiler."""
     os.makedirs(OUT, exist_ok=True)
-    sources, words = PROGRAMS[name]
     path = path or os.path.join(OUT, name)
-    ran([compiler(), *FLAGS, "-I", BRIDGE, *(os.path.join(BRIDGE, source) for source in sources), *more, *library(), *words, "-o", path])
+    ran([compiler(), *FLAGS, "-I", BRIDGE, os.path.join(BRIDGE, name + ".c"), *more, *library(), "-o", path])
     return path
 
 

@@ -27,8 +27,9 @@ NEEDS = {"docs/LINE_CAPTURE.md": ("line_capture",), "examples/README.md": ("open
 # The first line of a command that a page shows and that isn't run here, and why.
 NOT_RUN = {
     "docs/C_LIBRARY.md": {
-        "python3 scripts/bridge_build.py": "`make check` runs it",
-        "crates/link_replay/out/link_replay init rtu ab sealed.journal": "the daemon needs two serial ports",
+        "python3 scripts/bridge_build.py": "`make check` runs it"},
+    "docs/LIVE.md": {
+        "cc -O2 bridge/tty_ticks.c -o tty_ticks": "the adapter needs two serial ports",
         "make live": "by hand, for a minute"},
     "docs/PERFORMANCE.md": {
         "make demo": "minutes, and what it prints depends on the machine",

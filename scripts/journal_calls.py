@@ -1,4 +1,4 @@
-"""Runs a program with a small library that notes its calls on its journal, and makes them fail, for journal_faults.py and bridge_faults.py.
+"""Runs a program with a small library that notes its calls on its journal, and makes them fail, for journal_faults.py, failing_calls.py and two_runs.py.
 
 The library is compiled by `cc` and loaded before the C library. It sees lock, read, write and sync of the file that is the journal, and
 the sync of a folder.

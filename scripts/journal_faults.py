@@ -8,9 +8,8 @@ bridge/out/filter seal and check three frames. Each call on the journal fails in
 noted that the journal doesn't hold, the slot that keeps the last number must stay, and the next run must go on above all numbers that
 were noted. Each number must be synced before its note. The filter commits each number by itself. PROGRAM must bring its journal to the
 three numbers at once, by two writes, each with its sync, and nothing may go out before that. A second run over a journal must be refused,
-whichever program it is. Journals of all kinds are given to filter, and to bridge/out/bridge with and without -i: only a missing or empty
-file may be made a journal, and nobody may be told to make a damaged one anew. Keys of many lengths in both cases are given to filter and
-PROGRAM. It ends with 1 if a program does anything else, and with 2 if something isn't installed. It is no part of the gate.
+whichever program it is. Journals of all kinds are given to filter: none may be written, and nobody may be told to make a damaged one
+anew. Keys of many lengths in both cases are given to filter and PROGRAM. It ends with 1 if a program does anything else, and with 2 if something isn't installed. It is no part of the gate.
 """
 import collections, os, re, subprocess, sys, tempfile, time
 
@@ -25,7 +24,6 @@ OLD, BLANK, NEW = bytes(32), bytes(24), bytes(32) + slot_of(0) + bytes(24)
 STANDING = OLD + slot_of(6) + slot_of(5)
 # A journal whose last number is in slot A, and one whose last number is in slot B.
 KEPT = {"slot A": STANDING, "slot B": OLD + slot_of(5) + slot_of(6)}
-NO_PORT = "/no/such/port"
 # PROGRAM, with the words of a live line.
 LIVE = "live"
 DIGITS = "0123456789abcdefFEDCBA9876543210" * 5
@@ -33,8 +31,8 @@ DIGITS = "0123456789abcdefFEDCBA9876543210" * 5
 
 class Tried:
     def __init__(self, folder, program):
-        self.program, self.filter, self.bridge = program, bridge_build.build("filter"), bridge_build.build("bridge")
-        self.key, self.journal, self.got = (os.path.join(folder, name) for name in ("key.txt", "journal", "got"))
+        self.program, self.filter = program, bridge_build.build("filter")
+        self.key, self.journal = (os.path.join(folder, name) for name in ("key.txt", "journal"))
         self.calls, self.made, self.wrong = Calls(folder, self.journal), 0, 0
         self.put(self.key, KEY.encode())
 
@@ -62,12 +60,6 @@ class Tried:
 
     def run(self, command, text, program=None, **how):
         return self.calls.run(self.words(command, program), text, **how)
-
-    def open_by_bridge(self, *more, **how):
-        """A run of the bridge that opens its journals and then finds no port. A journal of its own is there for the other direction."""
-        self.put(self.got, OLD + slot_of(0, ("rtu", "ba")))
-        words = [self.bridge, "-k", self.key, "-s", self.journal, "-r", self.got, *more, NO_PORT, NO_PORT]
-        return self.calls.run(words, **how)
 
 
 def at_once(tried, command, text, what):
@@ -174,8 +166,6 @@ def second_runs(tried):
         for program in programs:
             done = subprocess.run(tried.words("seal", program), input=LINE, capture_output=True)
             tried.see((done.returncode, done.stdout) == (7, b"") and tried.bytes() == STANDING, "%s, %s: %r" % (what, program, done))
-        done = subprocess.run([tried.bridge, "-k", tried.key, "-s", tried.journal, "-r", tried.got, NO_PORT, NO_PORT], capture_output=True)
-        tried.see(done.returncode == 3 and b"in use" in done.stderr and tried.bytes() == STANDING, "%s, bridge: %r" % (what, done))
         first.communicate(LINE)
         tried.see(first.returncode == 0 and floor_of(tried.journal) == 6 + FRAMES, "the run that held the journal: %s" % first.returncode)
 
@@ -195,51 +185,19 @@ FILES = [
     ("an old number and a torn old slot", b"\x11" * 16 + old_slot_of(7) + slot_of(9), b"has old slots with a number"),
     ("another link's", OLD + slot_of(7, OTHER), b"is another link's"),
 ]
-MADE = ("missing", "empty")
 ADVICE = re.compile(rb"-i\b|zero them|make it|link_replay init")
 
 
 def other_files(tried):
-    """Gives files that aren't journals of the link to filter, and to the bridge with and without -i."""
+    """Gives files that aren't journals of the link to filter."""
     for name, content, said in FILES:
-        for make in (False, True):
-            tried.put(tried.journal, content)
-            run = tried.open_by_bridge(*(["-i"] if make else []))
-            if make and name in MADE:
-                letters = "".join(call.letter for call in run.calls)
-                tried.see(tried.bytes() == NEW and NO_PORT.encode() in run.log, "bridge -i, %s: %r" % (name, run[:3]))
-                tried.see(re.fullmatch("lFfr+wFfde(wFf)*", letters), "bridge -i, %s: calls %s" % (name, letters))
-                continue
-            tried.see(run.status == 3 and said in run.log and NO_PORT.encode() not in run.log and not ADVICE.search(run.log),
-                      "bridge%s, %s: %r" % (" -i" if make else "", name, run[:3]))
-            tried.see((tried.bytes() if os.path.exists(tried.journal) else None) == content, "bridge, %s: written" % name)
         tried.put(tried.journal, content)
         run = tried.run("seal", LINE)
-        tried.see(run.status in (7, 8, 12) and run.out == b"" and run.log and not ADVICE.search(run.log), "filter, %s: %r" % (name, run[:3]))
+        as_said = run.status in (8, 12) or said in run.log
+        tried.see(run.status in (7, 8, 12) and as_said and run.out == b"" and run.log and not ADVICE.search(run.log), "filter, %s: %r" % (name, run[:3]))
         tried.see((tried.bytes() if os.path.exists(tried.journal) else None) == content, "filter, %s: written" % name)
         if run.status in (8, 12):
             tried.see(run[:3] == tried.run("seal", LINE, tried.program)[:3], "filter, %s: not what PROGRAM says: %r" % (name, run[:3]))
-    for content, letter, number in ((STANDING, "F", 1), (None, "F", 1), (None, "F", 2), (None, "d", 1), (None, "w", 1)):
-        tried.put(tried.journal, content)
-        run = tried.open_by_bridge("-i", fault=(letter, number, "error", 0))
-        tried.see(run.status == 3 and NO_PORT.encode() not in run.log, "bridge -i, %s: %r" % (fault_of(letter, number, "error", 0), run[:3]))
-
-
-def disk_tried(tried):
-    """Checks the syncs with which the bridge tries its disk: each write leaves the journal as it was, and one that is cut off the last number."""
-    for what, content in KEPT.items():
-        tried.put(tried.journal, content)
-        run = tried.open_by_bridge("-i")
-        writes = sum(call.letter == "w" for call in run.calls)
-        tried.see(tried.bytes() == content and writes == 10 and NO_PORT.encode() in run.log, "bridge -i, a standing journal: %r, %d writes" % (run[:3], writes))
-        torn = b"\x11" * 24
-        for some in (0, 5, 23):
-            tried.put(tried.journal, content)
-            run = tried.open_by_bridge(fault=("w", 1, "error", some))
-            place = [call.at for call in run.calls if call.letter == "w"][0]
-            tried.see(run.status == 4 and place == (56 if what == "slot A" else 32), "bridge, the disk fails, last number in %s: %r" % (what, run))
-            tried.put(tried.journal, content[:place] + torn + content[place + 24:])
-            tried.see(floor_of(tried.journal) == 6, "bridge: a write at %d torn" % place)
 
 
 def keys(tried):
@@ -263,7 +221,7 @@ def main():
     program = built.program(sys.argv, 1)
     with tempfile.TemporaryDirectory(dir="/dev/shm" if os.path.isdir("/dev/shm") else None) as folder:
         tried = Tried(folder, program)
-        for part in (faults, second_runs, other_files, disk_tried, keys):
+        for part in (faults, second_runs, other_files, keys):
             before, begun = tried.made, time.monotonic()
             part(tried)
             print("%-12s %4d checks in %.1f s" % (part.__name__, tried.made - before, time.monotonic() - begun), flush=True)

@@ -5,8 +5,8 @@
 
 The line is mbpoll - bridge - attacker - bridge - server, over pseudo-terminals at 9,600 baud with even parity, with both directions
 sealed. mbpoll writes a register and reads all ten, while the attacker does ten sorts of things in turn, for at least
-SECONDS seconds (40 if not given). A bridge is the daemon or, with `--over`, the adapter tty_ticks and behind it PROGRAM, which has the
-words `live line`. The value that the attacker tries to get into a register is never one that mbpoll writes.
+SECONDS seconds (40 if not given). A bridge is the adapter tty_ticks, and behind it `link_replay live line` or, with `--over`, PROGRAM,
+which has the same words. The value that the attacker tries to get into a register is never one that mbpoll writes.
 
 The exit status is 0 only if polls were answered, each sort of attack was done at least once, no attack changed a register, and the
 journals have the numbers that the notes say were sealed and passed, and 2 if something isn't installed. It is no part of the gate.

@@ -1,12 +1,12 @@
 #!/usr/bin/env python3
-"""Runs the daemon of bridge/ over both protocols and profiles, at two rates, between a master and a device of its own.
+"""Runs live lines over both protocols and profiles, at two rates, between a master and a device of its own.
 
     python3 scripts/live_kinds.py [KIND..] [BAUD..] [--over PROGRAM]
 
 KIND is rtu, dnp3, rtu24 or dnp24, and BAUD is 9600 or 115200. Without them all kinds and rates are run. As in live.py, the line of
 each is a master, a bridge, an attacker, a bridge and a device, over pseudo-terminals. The device counts bytes: it
-takes as many as a request has, and acts on them at once. With `--over` the adapter tty_ticks stands in the daemon's place, and behind
-it PROGRAM, which has the words `live line`. In a first session nobody attacks. In a second one, with the same journals,
+takes as many as a request has, and acts on them at once. A bridge is the adapter tty_ticks, and behind it `link_replay live line` or,
+with `--over`, PROGRAM, which has the same words. In a first session nobody attacks. In a second one, with the same journals,
 ten sorts of things are done to the requests.
 
 The exit status is 0 only if each poll without an attack was answered (in up to 25 tries: a byte that this machine hands on too late

@@ -1,21 +1,21 @@
 """The parts of a live line on one machine, for live.py and live_kinds.py: pseudo-terminals, the two bridges, an attacker on the link
 between them, and what the journals and notes say afterwards.
 
-A bridge is the daemon of bridge/ or, with `--over PROGRAM`, a pair: the adapter tty_ticks, and a program that has the words of
-`live line P DIR KEY SENT GOT` and `init P DIR JOURNAL`.
+A bridge is the adapter tty_ticks, and behind it `link_replay live line` or, with `--over PROGRAM`, a program that has the words of this
+command and of `init`.
 """
 import collections, os, pty, re, select, signal, subprocess, sys, threading, time, tty
 
-import bridge_build
+import bridge_build, built
 from killed import floor_of
 
 PAUSE = 3
 SORTS = ("change", "repeat", "cut", "insert", "reorder", "reflect", "old session", "forge", "strip", "pause")
 
-# A bridge: the daemon, or the adapter and the program behind it. One of them is None.
-Ends = collections.namedtuple("Ends", "daemon adapter program")
+# A bridge: the adapter, and the program behind it.
+Ends = collections.namedtuple("Ends", "adapter program")
 
-# A link: the protocol and profile as the bridge's -p takes them, the baud, the seconds of a tick, how many bytes a trailer has, the
+# A link: the word of its protocol and profile, the baud, the seconds of a tick, how many bytes a trailer has, the
 # parity, and a frame that the attacker wants the device to carry out.
 Link = collections.namedtuple("Link", "kind baud tick trailer parity evil")
 
@@ -27,9 +27,9 @@ def link_of(kind, baud, parity, evil):
 def ends_of(words):
     """What stands at the ends of the link by these words of a script, and the other words."""
     if "--over" not in words[:-1]:
-        return words, Ends(bridge_build.build("bridge"), None, None)
+        return words, Ends(bridge_build.adapter(), built.program([], 0))
     at = words.index("--over")
-    return words[:at] + words[at + 2:], Ends(None, bridge_build.adapter(), os.path.abspath(words[at + 1]))
+    return words[:at] + words[at + 2:], Ends(bridge_build.adapter(), os.path.abspath(words[at + 1]))
 
 
 class Port:
@@ -183,15 +183,10 @@ class Bridges:
 
     def words(self, programs, link, end, direction, device, to_link, make):
         path, key = os.path.join(self.folder, end), os.path.join(self.folder, "key.txt")
-        line = ["-b", str(link.baud), "-H", "25", "-D", "40"]
-        if programs.daemon:
-            words = [programs.daemon, "-k", key, "-s", path + ".sent", "-r", path + ".got", "-d", direction, "-p", link.kind, *line,
-                     "-P", link.parity]
-            return words + ["-w", path] + (["-i"] if make else []) + [device.path, to_link.path]
         for kept, way in ((".sent", direction), (".got", "ba" if direction == "ab" else "ab")) if make else ():
             subprocess.run([programs.program, "init", link.kind, way, path + kept], check=True)
         # the adapter refuses a pseudo-terminal that is asked for parity, so a second stop bit stands for it
-        line += ["-P", "none", "-S", "1" if link.parity == "none" else "2"]
+        line = ["-b", str(link.baud), "-P", "none", "-S", "1" if link.parity == "none" else "2", "-H", "25", "-D", "40"]
         # both streams are recorded on their way
         recorded = ["bash", "-o", "pipefail", "-c", 'in=$1 out=$2; shift 2; tee "$in" | "$@" | tee "$out"', "bash", path + ".in", path + ".out"]
         program = [programs.program, "live", "line", link.kind, direction, key, path + ".sent", path + ".got"]
@@ -222,7 +217,7 @@ class Bridges:
         return statuses
 
     def part(self, path):
-        """Makes of the recorded streams of a pair, if there are any, the recordings of the four lines that a daemon makes."""
+        """Makes of the recorded streams of an end the recordings of four lines."""
         for stream, lanes in ((".in", {">": "device", "<": "came"}), (".out", {">": "sent", "<": "received"})):
             if os.path.exists(path + stream):
                 with open(path + stream) as file:
