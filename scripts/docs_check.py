@@ -32,7 +32,8 @@ LONGEST = 120
 # The most words of each group of pages, and of all of them.
 BOUNDS = (
     (1200, ("README.md",)),
-    (7650, ("docs/USAGE.md", "docs/FIT.md", "docs/LINE_CAPTURE.md", "docs/TICK_TEXT.md", "docs/LIVE.md", "docs/TIMELINE.md", "docs/AUDIT.md")),
+    (7000, ("docs/USAGE.md", "docs/FIT.md", "docs/LINE_CAPTURE.md", "docs/TICK_TEXT.md", "docs/LIVE.md", "docs/TIMELINE.md")),
+    (600, ("docs/AUDIT.md",)),
     (5500, ("docs/LINK.md", "docs/MODBUS.md", "docs/DNP3.md", "docs/DEVICES.md")),
     (4000, ("docs/SECURITY.md",)),
     (2500, ("docs/JOURNAL.md",)),
